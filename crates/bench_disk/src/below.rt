@@ -7,6 +7,7 @@ use crate::clock::copy;
 use crate::failure::Failure;
 use nor_driver::Nor;
 use sector_map::SectorMap;
+use std::marker::Brand;
 
 /// The blocks of a full chip each slot of which is live: the first ones, seven sectors in each.
 const FULL_BLOCKS: u32 = 3_580;
@@ -36,7 +37,11 @@ pub fn reads<N: Nor>(driver: &mut N, count: u32, buffer: &mut [u8]) -> Result<()
 
 /// `find`s of the sectors that lie there.
 #[inline(never)]
-pub fn finds<N: Nor>(map: &mut SectorMap<N>, count: u32, buffer: &mut [u8]) -> Result<(), Failure>
+pub fn finds<N: Nor>(
+    map: &mut SectorMap<N, Brand>,
+    count: u32,
+    buffer: &mut [u8],
+) -> Result<(), Failure>
     requires sectors { sector_count (length map.old.memory) ≡ 25060 }
     requires bytes { length buffer.old ≡ 512 }
     ensures sectors { sector_count (length map.new.memory) ≡ 25060 }

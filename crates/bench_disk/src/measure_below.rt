@@ -18,6 +18,7 @@ use sector_map::{LiveSlots, SectorMap, Stock, mount_slots};
 use sector_slots::SlotCalls;
 use sector_stock::{BlockState, SlotState};
 use std::alloc::Global;
+use std::marker::Brand;
 use std::rt::Clock;
 
 /// How many reads are timed in one go.
@@ -45,7 +46,7 @@ fn full_driver(alloc: Global) -> Result<Driver<SimChip>, Failure>
 }
 
 /// The map of a full chip.
-fn full_map(alloc: Global) -> Result<SectorMap<Driver<SimChip>>, Failure>
+fn full_map(alloc: Global) -> Result<SectorMap<Driver<SimChip>, Brand>, Failure>
     ensures sectors { IfOk result (λ map. sector_count (length map.memory) ≡ 25060) }
 {
     let Ok(map) = SectorMap::mount(alloc, full_driver(alloc)?) else {
@@ -78,7 +79,7 @@ fn time_of_reads<N: Nor>(
 /// Times one go of `find`s, in nanoseconds.
 fn time_of_finds<N: Nor>(
     clock: &impl Clock,
-    map: &mut SectorMap<N>,
+    map: &mut SectorMap<N, Brand>,
     buffer: &mut [u8],
 ) -> Result<u64, Failure>
     requires sectors { sector_count (length map.old.memory) ≡ 25060 }

@@ -24,6 +24,7 @@ pub(crate) fn read_clean<N: Nor>(journal: &mut Journal<N>, blocks: u16) -> Resul
     ensures not_clean { IfOk result (λ clean. IsFalse clean → AreCleanBlocks journal.old.memory
         → ⊥) }
     ensures same { journal.new.memory ≡ journal.old.memory }
+    ensures weak { journal.new.weak ≡ journal.old.weak }
     ensures ends { EndsFirmly result journal.old journal.new }
 {
     for block in 0..blocks {
@@ -43,6 +44,7 @@ fn read_clean_block<N: Nor>(journal: &mut Journal<N>, block: u16) -> Result<bool
     ensures not_clean { IfOk result (λ clean. IsFalse clean
         → IsCleanBlock (data_block journal.old.memory block) → ⊥) }
     ensures same { journal.new.memory ≡ journal.old.memory }
+    ensures weak { journal.new.weak ≡ journal.old.weak }
     ensures ends { EndsFirmly result journal.old journal.new }
 {
     let mut bytes = [0; BLOCK_LEN as usize];

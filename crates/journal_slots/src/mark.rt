@@ -11,7 +11,7 @@ ghost use Rattle.erase_journal.specs.Blocks.{SameChip, OnlyBlock, WithErased};
 ghost use Rattle.erase_journal.specs.Journals.{IsHealthy, IsSettled, unused};
 ghost use Rattle.erase_journal.specs.Spending.{Spends};
 ghost use Rattle.erase_journal.specs.Steps.{EraseInterrupted, EndsFirmly};
-ghost use Rattle.erase_journal.specs.Torn.{BlockInterrupted, SameBeside};
+ghost use Rattle.erase_journal.specs.Torn.{BlockInterrupted, OpensOnly, SameBeside};
 ghost use Rattle.erase_journal.specs.Weak.{AreFirmJournals};
 ghost use Rattle.nor_driver.specs.State.{bits_in};
 ghost use Rattle.sector_slots.specs.Slots.{data_blocks, data_block, kind_at};
@@ -153,6 +153,8 @@ pub(crate) fn erase_data<N: Nor>(journal: &mut Journal<N>, block: u16) -> Result
     ensures cut_bits { IsErrOf result NorError.Cut → IsSettled journal.old.memory
         → AreFirmJournals (bits_in journal.old) → BlockInterrupted (block + 4)
         (bits_in journal.old) (bits_in journal.new) }
+    ensures opens { IsErrOf result NorError.Cut → IsSettled journal.old.memory
+        → AreFirmJournals (bits_in journal.old) → OpensOnly (block + 4) (bits_in journal.new) }
     ensures healthy { IsErrOf result NorError.Cut → IsHealthy journal.old.memory
         → IsHealthy journal.new.memory }
     ensures spends { OnOk result (Spends (unused journal.old.memory) (unused journal.new.memory)) }

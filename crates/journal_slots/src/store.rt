@@ -96,6 +96,7 @@ impl<N: Nor> SectorSlots<N> {
             → AreAtRest (kind_at self.old.memory) (data_blocks self.old.memory)
             → IsClean self.old.memory → ⊥) }
         ensures same { self.new.memory ≡ self.old.memory }
+        ensures weak { self.new.weak ≡ self.old.weak }
         ensures ends { EndsFirmly result self.old self.new }
     {
         read_clean(&mut self.journal, self.blocks)

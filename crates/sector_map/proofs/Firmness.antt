@@ -18,6 +18,7 @@ use Rattle.sector_slots.specs.Slots.{Slot, Free, Live, NoGeneration, Dead, Outsi
 use Rattle.sector_slots.specs.Blocks.{IsAtRest}
 use Rattle.sector_slots.specs.Firm.{KeepsHead, HoldsBegun, AreDeadForGood, SameStates, SameStatesBut}
 use Rattle.sector_slots.specs.Weak.{block_place, mark_place, descriptor_place, sector_place, AreOnesFirm, AreOnesFirmButThird, HalfMark, HalfSlot, HasNewer, IsHalfBlock, IsHalfLive, IsDoubtfulMark, IsDoubtfulSlot, IsDeadForGood, IsSureSlot, firm, dead, fading, IsSureBlock, IsWhollyFirm}
+use Rattle.sector_slots.proofs.DiskLaws.{byte-bits-stay}
 use Rattle.sector_slots.proofs.FirmLaws.{bit-firm, wholly-edges, wholly-mark, wholly-slot, slot_number, sure-stays, doubtful-stays, edges-stay, mark-stays}
 use Rattle.sector_map.specs.Firm.{IsBegunSlot, IsHeadFirm, IsReadBlock, IsHeldBlock}
 
@@ -102,9 +103,6 @@ module _ (a b : Bits) (f : IsFirmer a b) where
         ]
   ]
 
-  pub bytes-stay : (c : ℕ) → ((k j : ℕ) → k < 4096 → 8 ≤ j → bit_at (byte a.weak (block_place c + k)) j ≡ 0) → (k j : ℕ) → k < 4096 → 8 ≤ j → bit_at (byte b.weak (block_place c + k)) j ≡ 0
-  bytes-stay c h k j low high = firm-stays a b (block_place c + k) j f (h k j low high)
-
   half-mark : (kind : Kind) (c : ℕ) → (IsDoubtfulMark a c → IsDoubtfulMark b c) → HalfMark kind a c → HalfMark kind b c
   half-mark kinds.Plain c d (inl m) = inl (are-firm-stays a b (mark_place c) 4 f m)
   half-mark kinds.Plain c d (inr h) = inr (d h)
@@ -145,7 +143,7 @@ module _ (a b : Bits) (f : IsFirmer a b) where
 
   pub half-stays : (c : ℕ) → KeepsNewer a.shown b.shown c → kind_at b.shown c ≡ kind_at a.shown c → ((i : ℕ) → i < 7 → raw_slot b.shown c i ≡ raw_slot a.shown c i) → IsHalfBlock a c → IsHalfBlock b c
   half-stays c newer kind same h = record {
-    bytes = λ other. bytes-stay c (h.bytes (λ e. other (kind ∙ e)));
+    bytes = λ other. byte-bits-stay a b f c (h.bytes (λ e. other (kind ∙ e)));
     mark = subst (λ k. HalfMark k b c) (sym kind) (half-mark (kind_at a.shown c) c (mark-stays a b f c kind same) h.mark);
     edges = λ other. edges-stay a b f c (h.edges (λ e. other (kind ∙ e)));
     slots = λ other i low. subst (λ s. HalfSlot s b c i) (sym (same i low))
@@ -236,7 +234,7 @@ settled-read a b f begun source t newer was is same states third h =
     let not_void : kind_at a.shown t ≡ kinds.Void → ⊥ = λ e. committed-void source (sym was ∙ e) in
     record {
       half = record {
-        bytes = λ other. bytes-stay a b f t (h.half.bytes not_void);
+        bytes = λ other. byte-bits-stay a b f t (h.half.bytes not_void);
         mark = subst (λ k. HalfMark k b t) (sym is) (λ i k from to one. elim (cases_eq i (mark_place t)) [
           | inl at ↦ subst (λ q. bit_at (byte b.weak q) k ≡ 0) (sym at) (elim (cases_eq k 2) [
             | inl two ↦ subst (λ q. bit_at (byte b.weak (mark_place t)) q ≡ 0) (sym two) third
@@ -264,7 +262,7 @@ retired-read a b f begun c p within tag x was now good kind same states newer h 
     let dead_free : (s : Slot) → s ≡ Dead → s ≡ Free → ⊥ = λ s l e. (let q : 0 ≡ 3 = ap slot_number (sym e ∙ l) in omega (arith, q)) in
     record {
       half = record {
-        bytes = λ other. bytes-stay a b f c (h.half.bytes (λ e. other (kind ∙ e)));
+        bytes = λ other. byte-bits-stay a b f c (h.half.bytes (λ e. other (kind ∙ e)));
         mark = subst (λ k. HalfMark k b c) (sym kind) (half-mark a b f (kind_at a.shown c) c (λ d. absurd (not_free (raw_slot a.shown c p) was (d.spare.free p within))) h.half.mark);
         edges = λ other. edges-stay a b f c (h.half.edges (λ e. other (kind ∙ e)));
         slots = λ other i low. elim (cases_eq i p) as (λ _. HalfSlot (raw_slot b.shown c i) b c i) [

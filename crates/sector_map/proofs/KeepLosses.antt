@@ -10,10 +10,11 @@ use Rattle.nor_driver.proofs.CallLaws.{fails-as}
 use Rattle.erase_journal.proofs.SettledLaws.{settled-healthy}
 use Rattle.sector_slots.specs.Sectors.{IsSoundMap, sector_at}
 use Rattle.sector_slots.specs.Blocks.{AreSettled}
-use Rattle.sector_slots.specs.Losses.{HasWholeSources, IsFirmDisk, none}
+use Rattle.sector_slots.specs.Losses.{HasWholeSources, IsFirmDisk}
 use Rattle.sector_slots.specs.Weak.{IsSureBlock}
 use Rattle.sector_slots.proofs.BlankLaws.{sound-holds}
 use Rattle.sector_slots.proofs.ChipBlocks.{rest-sources}
+use Rattle.sector_slots.proofs.ChipLosses.{unchanged}
 use Rattle.sector_stock.specs.Copy.{KeepsSectors}
 use Rattle.sector_stock.specs.declared.index.BlockState.{BlockState}
 use Rattle.sector_stock.specs.Losses.{IsFirmDiskIn, KeepsSuspects, LosesNothing, suspects_in}
@@ -43,7 +44,7 @@ sets-later g x m m1 b keeps (after_it a suspect disk s change) = after_it a susp
 
 -- nothing was changed after others that kept the sectors
 pub at-loss-none : (m : List ℕ) (a b : Bits) (suspect : ℕ → Bool) → IsFirmDisk a suspect → HasWholeSources a.shown → KeepsMap m a.shown → b ≡ a → KeepsAtLoss m b
-at-loss-none m a b suspect h sources keeps same = record { before = a; suspect = suspect; disk = h; keeps = keeps; change = none sources same }
+at-loss-none m a b suspect h sources keeps same = record { before = a; suspect = suspect; disk = h; keeps = keeps; change = unchanged a b suspect h sources same }
 
 -- a call that only reads
 abbrev with-bits : List ℕ → List ℕ → Bits

@@ -27,4 +27,7 @@ mod Moving
 mod Renewal
 pub mod Firmness
 mod MountFirmly
+pub mod FirmFilling
 mod SetLosses
+pub mod FirmMaps
+mod FirmBegins

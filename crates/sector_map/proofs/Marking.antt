@@ -52,7 +52,7 @@ marked-laid m m' chip same un now e =
     let h = laid-cases (not (has_name m) || not (is_sealed m)) (not (blocks_in m == chip.blocks) || not (groups_in m == chip.groups)) was in
     rw (same 0 (omega arith), same 1 (omega arith), same 2 (omega arith), same 3 (omega arith), same 4 (omega arith), same 5 (omega arith), same 6 (omega arith), same 7 (omega arith), same 8 (omega arith), same 9 (omega arith), same 10 (omega arith), same 11 (omega arith), same 12 (omega arith), same 14 (omega arith), now, un.layout) h
 
-kept-laid : (m m' : List ℕ) (chip : Geometry) → ((k : ℕ) → k < 16 → byte m' k ≡ byte m k) → layout_of m' chip ≡ layout_of m chip
+pub kept-laid : (m m' : List ℕ) (chip : Geometry) → ((k : ℕ) → k < 16 → byte m' k ≡ byte m k) → layout_of m' chip ≡ layout_of m chip
 kept-laid m m' chip same = rw (same 0 (omega arith), same 1 (omega arith), same 2 (omega arith), same 3 (omega arith), same 4 (omega arith), same 5 (omega arith), same 6 (omega arith), same 7 (omega arith), same 8 (omega arith), same 9 (omega arith), same 10 (omega arith), same 11 (omega arith), same 12 (omega arith), same 14 (omega arith), same 15 (omega arith)) refl
 
 disk-bytes : (m m' : List ℕ) → SameDisk m m' → mixed_in m' ≡ mixed_in m → (k : ℕ) → k < 16 → byte m' k ≡ byte m k

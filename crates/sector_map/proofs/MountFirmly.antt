@@ -21,12 +21,14 @@ use Rattle.sector_slots.specs.Copying.{SameLive, HoldsNothing}
 use Rattle.sector_slots.specs.Firm.{HoldsBegun, SameStatesBut}
 use Rattle.sector_slots.specs.Sectors.{LiveAt, IsSingle, generation_in}
 use Rattle.sector_slots.specs.Steps.{OnlyPlace}
-use Rattle.sector_slots.specs.Weak.{HasNewer, HasSureRoom, HasSureSpare, HasChipRoom, IsDeadForGood, IsDoubtedStore, IsHalfStore, IsHalfChip, IsWhollyFirm, IsSureBlock, IsSureSlot, block_place}
+use Rattle.sector_slots.specs.Weak.{HasNewer, HasSureRoom, HasSureSpare, HasChipRoom, HaveByteBits, IsDeadForGood, IsDoubtedStore, IsHalfStore, IsHalfChip, IsWhollyFirm, IsSureBlock, IsSureSlot}
 use Rattle.sector_slots.specs.Weak as weak
 use Rattle.sector_slots.proofs.FirmLaws.{slot_number, wholly-block, wholly-slot, sure-stays, block-stays}
 use Rattle.sector_slots.proofs.BlankLaws.{erased-spare}
+use Rattle.sector_slots.proofs.DiskLaws.{byte-bits-stay, wholly-room}
 use Rattle.sector_slots.proofs.SectorLaws.{never-round}
 use Rattle.sector_stock.specs.Copy.{EndsVoid, IsCommittedIn, IsFinished, OthersStay, SettlesCopy, OnlySettles}
+use Rattle.sector_stock.proofs.FirmLosses.{rest-room}
 use Rattle.sector_stock.proofs.Moved.{rest-slot}
 use Rattle.sector_map.specs.Firm.{ReadsAlike, AreHeadsFirm, AreReadBlocks, IsReadBlock, IsHeldBlock, AreHeldBlocks, KeepsRead, MakesHeld, MovesFirmly}
 use Rattle.sector_map.specs.Mending.{HasDeadGroup, PairsSeen}
@@ -50,6 +52,9 @@ fewer-sized m m' c n low = rw (← n) low
 more-sized : (m m' : List ℕ) (c : ℕ) → length m' ≡ length m → c < data_blocks m → c < data_blocks m'
 more-sized m m' c n low = rw n low
 
+pub bytes-stay : (a b : Bits) → IsFirmer a b → length b.shown ≡ length a.shown → HaveByteBits a → HaveByteBits b
+bytes-stay a b f n h c low = byte-bits-stay a b f c (h c (fewer-sized a.shown b.shown c n low))
+
 spare-alike : (m m' : List ℕ) (c : ℕ) → kind_at m' c ≡ kind_at m c → ((i : ℕ) → i < 7 → raw_slot m' c i ≡ raw_slot m c i) → IsSpareIn m c → IsSpareIn m' c
 spare-alike m m' c k r s = record { plain = k ∙ s.plain; free = λ i low. r i low ∙ s.free i low }
 
@@ -67,21 +72,12 @@ room-alike a b f n kinds_same raws (weak.HasSureRoom.committed s t ls lt e each)
 room-same : (a b : Bits) → IsFirmer a b → b.shown ≡ a.shown → HasSureRoom a → HasSureRoom b
 room-same a b f e h = room-alike a b f (ap (λ m. length m) e) (λ c low. ap (λ m. kind_at m c) e) (λ c i low small. ap (λ m. raw_slot m c i) e) h
 
--- an erased block is room
-wholly-room : (b : Bits) (c : ℕ) → c < data_blocks b.shown → IsSpareIn b.shown c → IsWhollyFirm b.weak c → HasSureRoom b
-wholly-room b c low s w = weak.HasSureRoom.spare c low s (λ i small. wholly-slot b c i small w)
-
--- where no copying goes on, room is a wholly free block
+-- a block at rest is neither void nor committed
 void-rest : (k : Kind) → k ≡ kinds.Void → IsAtRest k → ⊥
 void-rest k e r = subst (λ q. IsAtRest q) e r
 
 copy-rest : (k : Kind) (s : ℕ) → k ≡ kinds.Committed s → IsAtRest k → ⊥
 copy-rest k s e r = subst (λ q. IsAtRest q) e r
-
-pub rest-room : (b : Bits) → AreAtRest (kind_at b.shown) (data_blocks b.shown) → HasSureRoom b → HasSureSpare b
-rest-room b rest (weak.HasSureRoom.spare c low s each) = record { block = c; number = low; spare = s; slots = each }
-rest-room b rest (weak.HasSureRoom.void c low e) = absurd (void-rest (kind_at b.shown c) e (rest c low))
-rest-room b rest (weak.HasSureRoom.committed s t ls lt e each) = absurd (copy-rest (kind_at b.shown t) (s + 4) e (rest t lt))
 
 spare-same : (a b : Bits) → IsFirmer a b → b.shown ≡ a.shown → HasSureSpare a → HasSureSpare b
 spare-same a b f e h = record {
@@ -310,6 +306,7 @@ module _ (a b : NorState) (f : IsFirmer (bits_in a) (bits_in b)) (x y : Held) (g
 -- No sector has two slots: so no slot has a newer one.
 pub single-held : (b : NorState) → IsSingle b.memory → AreAtRest (kind_at b.memory) (data_blocks b.memory) → (begun : Bool) → AreReadBlocks (bits_in b) begun → AreHeldBlocks (bits_in b) begun
 single-held b single rest begun h = record {
+  bytes = λ c low. (h.each c low).half.bytes (λ e. void-rest (kind_at b.memory c) e (rest c low));
   each = λ c low. held-read (bits_in b) begun c (h.each c low) (λ i small tag x live newer.
       let at : slot_at b.memory (7 * c + i) ≡ Live tag x = rest-slot b.memory c i rest low small ∙ live in
       let one = single.one (7 * c + i) newer.slot tag.number tag.generation (next_generation tag.generation) x newer.content (record { number = omega (arith, low, small); is = at }) newer.live in
@@ -344,13 +341,14 @@ still-moves a b s f e none = record {
   moved = λ begun h. held-sure (bits_in b) begun s (held-stays (bits_in a) (bits_in b) f begun s (same-memory a.memory b.memory s e) h)
       (λ i low is state. none (record { slots = h.of_slots; place = i; within = low; begun = ap (λ m. byte_of_state m s i) (sym e) ∙ state }));
   room = spare-same (bits_in a) (bits_in b) f e;
+  bytes = bytes-stay (bits_in a) (bits_in b) f (ap (λ m. length m) e);
 } where
   byte_of_state : List ℕ → ℕ → ℕ → ℕ
   byte_of_state m c i = byte (data_block m c) (16 + 4 * i)
 
-pub afresh-moves : (a b : NorState) (s t : ℕ) → IsFirmer (bits_in a) (bits_in b) → OthersStay s t a.memory b.memory → IsWhollyFirm b.weak s → IsWhollyFirm b.weak t → IsSpareIn b.memory s → s < data_blocks b.memory → is_group (kind_at b.memory t) ≡ false
+pub afresh-moves : (a b : NorState) (s t : ℕ) → IsFirmer (bits_in a) (bits_in b) → length b.memory ≡ length a.memory → OthersStay s t a.memory b.memory → IsWhollyFirm b.weak s → IsWhollyFirm b.weak t → IsSpareIn b.memory s → s < data_blocks b.memory → is_group (kind_at b.memory t) ≡ false
     → MovesFirmly s (bits_in a) (bits_in b)
-afresh-moves a b s t f others ws wt spare low_s gt = record {
+afresh-moves a b s t f n others ws wt spare low_s gt = record {
   held = λ begun c low h. elim (cases_eq c s) [
     | inl e ↦ subst (λ q. IsHeldBlock (bits_in b) begun q) (sym e) (wholly-held (bits_in b) begun s (ap is_group spare.plain) ws)
     | inr away ↦ elim (cases_eq c t) [
@@ -367,6 +365,7 @@ afresh-moves a b s t f others ws wt spare low_s gt = record {
   ];
   moved = λ begun h. wholly-block (bits_in b) true s ws;
   room = λ _. record { block = s; number = low_s; spare = spare; slots = λ i small. wholly-slot (bits_in b) s i small ws };
+  bytes = bytes-stay (bits_in a) (bits_in b) f n;
 }
 
 -- so far in the loop
@@ -374,12 +373,13 @@ pub record IsMovedBelow (k : ℕ) (begun : Bool) (b : NorState) : Type 0 where
   pub each : (c : ℕ) → c < data_blocks b.memory → IsHeldBlock (bits_in b) begun c
   pub sure : (c : ℕ) → c < data_blocks b.memory → c < k → IsSureBlock (bits_in b) true c
   pub room : HasSureSpare (bits_in b)
+  pub bytes : HaveByteBits (bits_in b)
 
 abbrev pub MovedBelow : ℕ → Bool → NorState → NorState → Type 0
 MovedBelow k begun a b = AreHeldBlocks (bits_in a) begun → IsMovedBelow k begun b
 
 pub moved-none : (begun : Bool) (a : NorState) → MovedBelow 0 begun a a
-moved-none begun a h = record { each = h.each; sure = λ c low none. absurd (omega (arith, none)); room = h.room }
+moved-none begun a h = record { each = h.each; sure = λ c low none. absurd (omega (arith, none)); room = h.room; bytes = h.bytes }
 
 pub moved-more : (k next : ℕ) (begun : Bool) (a b d : NorState) → next ≡ k + 1 → length d.memory ≡ length b.memory → MovesFirmly k (bits_in b) (bits_in d) → MovedBelow k begun a b → MovedBelow next begun a d
 moved-more k next begun a b d e n moves so_far h =
@@ -391,17 +391,19 @@ moved-more k next begun a b d e n moves so_far h =
         | inr other ↦ moves.sure c (fewer-sized b.memory d.memory c n low) (was.sure c (fewer-sized b.memory d.memory c n low) (omega (arith, below, other, e)))
       ];
       room = moves.room was.room;
+      bytes = moves.bytes was.bytes;
     }
 
 pub moved-all : (k : ℕ) (begun : Bool) (a b : NorState) → data_blocks b.memory ≤ k → MovedBelow k begun a b → AreHeldBlocks (bits_in a) begun → IsDoubtedStore (bits_in b)
-moved-all k begun a b all so_far h = (let was = so_far h in record { each = λ c low. was.sure c low (omega (arith, low, all)); room = was.room })
+moved-all k begun a b all so_far h = (let was = so_far h in record { bytes = was.bytes; each = λ c low. was.sure c low (omega (arith, low, all)); room = was.room })
 
 -- no slot was seen to be begun
 pub none-moved : (begun : Bool) (a : NorState) → begun ≡ false → AreHeldBlocks (bits_in a) begun → IsDoubtedStore (bits_in a)
-none-moved begun a e h = record { each = λ c low. held-sure (bits_in a) begun c (h.each c low) (λ i small is state. true≢false (sym is ∙ e)); room = h.room }
+none-moved begun a e h = record { bytes = h.bytes; each = λ c low. held-sure (bits_in a) begun c (h.each c low) (λ i small is state. true≢false (sym is ∙ e)); room = h.room }
 
 pub doubted-same : (a b : NorState) → IsFirmer (bits_in a) (bits_in b) → b.memory ≡ a.memory → IsDoubtedStore (bits_in a) → IsDoubtedStore (bits_in b)
 doubted-same a b f e h = record {
+  bytes = bytes-stay (bits_in a) (bits_in b) f (ap (λ m. length m) e) h.bytes;
   each = λ c low. (let r = same-memory a.memory b.memory c e in block-stays (bits_in a) (bits_in b) f true c r.kind r.slots (h.each c (fewer-same a.memory b.memory c e low)));
   room = spare-same (bits_in a) (bits_in b) f e h.room;
 }

@@ -44,7 +44,7 @@ use Rattle.sector_map.specs.Maps.{Sets}
 use Rattle.sector_map.specs.Replace.{HeldBy, IsInSlots, IsPlaced, IsReplaceable, generation_after, tag_after}
 use Rattle.sector_map.proofs.KeepLosses.{firm-store, loses-keeps, same-bits}
 use Rattle.sector_map.proofs.MapCalls.{holds-sets, keeps-none, none-moved}
-use Rattle.sector_map.proofs.MountFirmly.{rest-room}
+use Rattle.sector_stock.proofs.FirmLosses.{rest-room}
 use Rattle.sector_map.proofs.Places.{others-kept, placed-settled, slot-only, put-holds, spare-apart}
 use Rattle.sector_map.proofs.Replacing.{found, generation-next, old-kept}
 use Rattle.sector_map.proofs.Zeroing.{sets-keeps}

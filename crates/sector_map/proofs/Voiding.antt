@@ -17,13 +17,11 @@ use Rattle.sector_slots.specs.Copying.{SameLive, HoldsNothing}
 use Rattle.sector_slots.specs.Sectors.{IsSoundMap, IsSingle}
 use Rattle.sector_stock.specs.Copy.{KeepsSectors, EndsCopy, EndsVoid, IsVoidIn, IsCommittedIn}
 use Rattle.sector_stock.proofs.Copying.{after-keeps}
+use Rattle.sector_stock.proofs.Losing.{same-keeps}
 use Rattle.sector_map.specs.Found.{FoundIn}
 use Rattle.sector_map.specs.Mending.{EndsVoids}
 use Rattle.sector_map.specs.declared.found.Found.TheVariants.{Void, Committed}
 use Rattle.sector_map.proofs.Mending.{mends-sound, kept-mends}
-
-keeps-none : (m : List ℕ) → KeepsSectors m m
-keeps-none m = record { chip = record { same_length = refl; superblock = λ k low. refl }; sectors = λ sectors h. h; alone = λ a. a; clean = λ c. c }
 
 -- slots that represent the same, after one another
 live-chain : (f g h : ℕ → Slot) (n : ℕ) → SameLive f g n → SameLive g h n → SameLive f h n
@@ -60,7 +58,7 @@ pub record Voiding (k : ℕ) (a b : NorState) : Type 0 where
 pub voiding-none : (a : NorState) → Voiding 0 a a
 voiding-none a = record {
   since = inl refl;
-  keeps = keeps-none a.memory;
+  keeps = same-keeps a.memory;
   single = λ one. one;
   erased = λ d low none. absurd (omega (arith, none));
   others = λ d low ne. refl;

@@ -1,10 +1,16 @@
 -- What the steps of a mount and of a restore leave. Words of private functions: no claim rests on
 -- them. Source: own.
-use Rattle.std.specs.Prelude.{◌≡◌, ◌⊎◌, ◌<◌, Bool, true, false, List, length, Option, Some, None}
-use Rattle.nor_driver.specs.State.{NorState, OnlyMemoryChanges}
+use Rattle.std.specs.Prelude.{◌≡◌, ◌⊎◌, ◌<◌, ℕ, Bool, true, false, List, length, Option, Some, None}
+use Rattle.chip_model.specs.Wavering.{Bits}
+use Rattle.nor_driver.specs.State.{NorState, OnlyMemoryChanges, bits_in}
 use Rattle.nor_driver.specs.declared.error.NorError.{NorError}
-use Rattle.nor_layout.specs.Superblock.{mixed_in}
+use Rattle.nor_layout.specs.Superblock.{layout_in, mixed_in}
+use Rattle.erase_journal.specs.Weak.{AreRecoveredJournals}
+use Rattle.erase_journal.specs.declared.firmness.Firmness.{Firmness}
+use Rattle.erase_journal.specs.declared.firmness.Firmness.TheVariants.{Firm}
 use Rattle.sector_slots.specs.Sectors.{IsSoundMap}
+use Rattle.sector_slots.specs.Slots.{IsClean}
+use Rattle.sector_slots.specs.Weak.{IsHalfStore}
 use Rattle.sector_map.specs.Marking.{IsUnmarked, mixed_mark}
 use Rattle.sector_map.specs.declared.table.LiveSlots.{LiveSlots}
 use Rattle.sector_map.specs.declared.error.MapError.{MapError}
@@ -46,6 +52,20 @@ FillFails mounts.Slow old new = FillSlow old new
 FillFails mounts.Corrupt old new = FillCorrupt old new
 FillFails mounts.OutOfMemory old new = ⊥
 FillFails mounts.NotFormatted old new = ⊥
+
+-- A chip that is fit for a firm mount, once its journals were recovered.
+pub record IsRecoveredChip (b : Bits) : Type 0 where
+  pub layout : layout_in b.shown ≡ 2
+  pub journals : AreRecoveredJournals b
+  pub store : IsHalfStore b
+  pub clean : IsClean b.shown
+
+-- the table is made of one, where so many losses of power and slow operations were counted
+pub record FillsFirmly (cuts slows : ℕ) (firmness : Firmness) (slots : NorState) : Type 0 where
+  pub firmness_is : firmness ≡ Firm
+  pub cuts_are : slots.cuts ≡ cuts
+  pub slows_are : slots.slows ≡ slows
+  pub chip : IsRecoveredChip (bits_in slots)
 
 -- the store was restarted, and the table made again
 pub record Renewed (table : List LiveSlots) (old new : NorState) (indexed : Bool) : Type 0 where

@@ -12,8 +12,8 @@ use Rattle.sector_slots.specs.Blocks.{AreSettled}
 use Rattle.sector_slots.specs.Sectors.{IsSoundMap}
 use Rattle.sector_slots.specs.Firm.{HoldsBegun}
 use Rattle.sector_slots.specs.Weak.{AreEdgesFirm, IsDoubtfulMark, IsDoubtfulSlot, IsHalfBlock}
-use Rattle.sector_slots.specs.Weak.{HasSureRoom, HasSureSpare, IsSureBlock, IsSureSlot, block_place}
-use Rattle.sector_slots.specs.Weak.{mark_place}
+use Rattle.sector_slots.specs.Weak.{HasSureRoom, HaveByteBits, HasSureSpare, IsSureBlock}
+use Rattle.sector_slots.specs.Weak.{IsSureSlot, block_place, mark_place}
 use Rattle.sector_map.specs.Table.{IsTableOf}
 use Rattle.sector_map.specs.declared.table.LiveSlots.{LiveSlots}
 
@@ -75,6 +75,7 @@ pub record IsHeldBlock (b : Bits) (begun : Bool) (c : ℕ) : Type 0 where
       ⊎ ((begun ≡ true) × IsBegunSlot b.shown c i)
 
 pub record AreHeldBlocks (b : Bits) (begun : Bool) : Type 0 where
+  pub bytes : HaveByteBits b
   pub each : (c : ℕ) → c < data_blocks b.shown → IsHeldBlock b begun c
   pub room : HasSureSpare b
 
@@ -85,6 +86,7 @@ pub record MovesFirmly (block : ℕ) (old new : Bits) : Type 0 where
   pub sure : (c : ℕ) → c < data_blocks old.shown → IsSureBlock old true c → IsSureBlock new true c
   pub moved : (begun : Bool) → IsHeldBlock old begun block → IsSureBlock new true block
   pub room : HasSureSpare old → HasSureSpare new
+  pub bytes : HaveByteBits old → HaveByteBits new
 
 -- A step of a mount leaves blocks that were read such, and one after which none has two slots of a
 -- sector makes them held.

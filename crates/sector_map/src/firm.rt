@@ -58,6 +58,7 @@ pub(crate) fn suspect_as<S: Reclaim>(stock: &mut S, firmness: Firmness)
     ensures state { S.state stock.new ≡ S.state stock.old }
     ensures indexed { S.indexed stock.new ≡ S.indexed stock.old }
     ensures suspect { firmness ≡ Firmness.Firm → AreSuspect (S.counts stock.new) }
+    ensures listed { length (S.counts stock.new) ≡ length (S.counts stock.old) }
 {
     match firmness {
         Firmness::Steady => {}

@@ -11,7 +11,8 @@
 //! nothing is left by both that was programmed before it, but the superblock. An error is latched
 //! until a `restore` that answers Ok. A firm mount leaves firm journals (`mount_as`, `journals`),
 //! and of these a loss of power in any later call but `restore` leaves what the next one wants
-//! (`EndsFirmly`).
+//! (`EndsFirmly`). Where the memory was fit for that mount (`Provenance`) it leaves a firm disk,
+//! which each call keeps until the first loss; of that each says what it left (`firmly`).
 //!
 //! **Contents are promised of a clean memory alone** (`IsClean`): one in which every byte that
 //! reads as free is erased. A mount doesn't look, `is_clean` does. On any other memory slots and
@@ -33,6 +34,7 @@ mod groups;
 mod laws;
 mod map;
 mod mount;
+mod provenance;
 mod scan;
 mod settling;
 mod steps;
@@ -46,6 +48,7 @@ pub use groups::{has_pair, lowest_dead_group};
 pub use laws::group_chips_are_mountable;
 pub use map::SectorMap;
 pub use mount::mount_slots;
+pub use provenance::Provenance;
 pub use scan::{is_spare, survey};
 pub use steps::clear_firmly;
 pub use stock::Stock;

@@ -5,6 +5,7 @@ ghost use Rattle.std.specs.Prelude.{slice_index_or, OnOk, IfOk, IfErr, IsTrue, I
 ghost use Rattle.std.specs.Result.{IsErrOf};
 ghost use Rattle.chip_model.specs.Geometry.{IsChipSize, sector_count};
 ghost use Rattle.nor_driver.specs.State.{bits_in, IsNorReady};
+ghost use Rattle.nor_layout.specs.Superblock.{layout_in};
 ghost use Rattle.erase_journal.specs.Journals.{IsHealthy, unused};
 ghost use Rattle.erase_journal.specs.Recovery.{IsBehind};
 ghost use Rattle.erase_journal.specs.Renewal.{RenewsAll};
@@ -14,18 +15,22 @@ ghost use Rattle.erase_journal.specs.Weak.{AreRecoveredJournals};
 ghost use Rattle.sector_slots.specs.Slots.{slot_count, data_blocks, IsClean, IsSpareIn};
 ghost use Rattle.sector_slots.specs.Sectors.{sector_at, zeros};
 ghost use Rattle.sector_slots.specs.Weak.{IsDoubtedStore, IsHalfChip, IsHalfStore};
+ghost use Rattle.sector_stock.specs.Losses.{IsFirmDiskIn};
 ghost use Rattle.sector_stock.specs.Takes.{urgent_work, work_of};
 ghost use Rattle.sector_map.specs.Marking.{is_unmarked};
 ghost use Rattle.sector_map.specs.Table.{holder};
 ghost use Rattle.sector_map.specs.Maps.{IsStore, KeepsMap, Sets, SetLeaves, Mounted, MountFails};
 ghost use Rattle.sector_map.specs.Maps.{MapRestored, MapRestoreFails, IsLaidOut, IsSettledMap};
 ghost use Rattle.sector_map.specs.Filling.{Filled, FillFails, Renewed, RenewCorrupt, RenewFails};
-ghost use Rattle.sector_map.specs.Filling.{latched_after_cut};
+ghost use Rattle.sector_map.specs.Filling.{FillsFirmly, latched_after_cut};
+ghost use Rattle.sector_map.specs.Losses.{BeginsFirmly, HoldsFirmDisk, IsFirmMap, KeepsAtLoss};
+ghost use Rattle.sector_map.specs.Losses.{SetsAtLoss, StandsAtEachDraw, WhileFirm};
 
 use crate::Held;
 use crate::error::MapError;
 use crate::firm::clear_as;
 use crate::mount::mount_slots;
+use crate::provenance::Provenance;
 use crate::settling::{renew_block, renew_journals};
 use crate::steps::{find_sector, tidy_levelled, tidy_when_short, write_levelled};
 use crate::stock::Stock;
@@ -39,15 +44,19 @@ use nor_layout::SuperError;
 use sector_slots::SlotCalls;
 use sector_stock::{BlockState, Reclaim, SlotState};
 use std::alloc::{AllocError, Global};
-use std::marker::Model;
+use std::marker::{Model, PhantomData};
 
 /// The sectors of a chip: its slots with their index, and the table of the slots that hold them.
 ///
 /// A contract sees it as the state of the memory behind it; a Slow that it answered is latched in
 /// it until a `restore` that answers Ok. While an error is latched every call but `restore` answers
-/// it, and does nothing. Source: own.
+/// it, and does nothing. Where `P.firm` says that it was mounted firmly from a memory that was fit
+/// for it, the chip is a firm disk until a loss of power or a slow operation is counted; each call
+/// says what that loss leaves (`firmly`): the state before the one change that it interrupted, and
+/// that change, by which `losses_keep_sectors` of `sector_slots` tells what is read at each later
+/// power-on; and the journals, at each of these. Source: own.
 #[derive(Drop)]
-pub struct SectorMap<N: Nor> {
+pub struct SectorMap<N: Nor, P: Provenance> {
     stock: Stock<N>,
     /// The entries of the sectors, in their order.
     table: Vec<LiveSlots>,
@@ -55,12 +64,14 @@ pub struct SectorMap<N: Nor> {
     latched: Option<NorError>,
     /// What is assumed of torn bits.
     firmness: Firmness,
+    of: PhantomData<P>,
 }
 
-impl<N: Nor> Model for SectorMap<N> {
+impl<N: Nor, P: Provenance> Model for SectorMap<N, P> {
     ghost use Rattle.std.specs.Prelude.{◌≡◌, length, vec_len};
     ghost use Rattle.chip_model.specs.Geometry.{sector_count};
     ghost use Rattle.nor_driver.specs.State.{NorState};
+    ghost use Rattle.sector_map.specs.Losses.{IsFirmMap, IsSince, WhileFirm};
     ghost use Rattle.sector_map.specs.Maps.{KnownWhile, shown_with};
 
     ghost Value = { NorState };
@@ -73,14 +84,19 @@ impl<N: Nor> Model for SectorMap<N> {
     ghost invariant = { λ map. record {
       counted : vec_len map.table ≡ sector_count (length map.stock.slots.memory);
       standing : KnownWhile map.latched map.table.items map.stock.slots map.stock.indexed;
+      since : IsSince P.firm P.cuts P.slows map.stock.slots;
+      firm : WhileFirm P.firm P.cuts P.slows map.stock.slots
+          (IsFirmMap map.latched map.firmness map.stock.slots map.stock.blocks.items);
     } };
 }
 
-impl<N: Nor> SectorMap<N> {
+impl<N: Nor, P: Provenance> SectorMap<N, P> {
     /// Mounts a memory, in the steps of docs/SECTORS.md, "A mount". A refusal hands the memory
     /// back. `Corrupt` is also the answer to a superblock of another layout or size, and then
-    /// nothing was changed: a newer format and a damaged byte look alike.
-    pub fn mount(alloc: Global, nor: N) -> Result<SectorMap<N>, (N, MapError)>
+    /// nothing was changed: a newer format and a damaged byte look alike. Torn bits are taken to be
+    /// steady, so that `P.firm` can't be said.
+    pub fn mount(alloc: Global, nor: N) -> Result<SectorMap<N, P>, (N, MapError)>
+        requires plainly { P.firm ≡ false }
         ensures ok { IfOk result (λ map. Mounted (N.state nor) map) }
         ensures fails { IfErr result (λ e. MountFails e.1 (N.state nor) (N.state e.0)) }
     {
@@ -91,12 +107,13 @@ impl<N: Nor> SectorMap<N> {
     /// journals of which one operation was interrupted a firm mount leaves firm ones, and of blocks
     /// of which one change was interrupted such whose marks and slots are sure; but not where it
     /// marks a chip of layout 1. After any mount no erase and no copying goes on, and no sector has
-    /// two live slots (`settled`).
+    /// two live slots (`settled`). `P.firm` is said of a firm mount of a chip that is fit for it.
     pub fn mount_as(
         alloc: Global,
         nor: N,
         firmness: Firmness,
-    ) -> Result<SectorMap<N>, (N, MapError)>
+    ) -> Result<SectorMap<N, P>, (N, MapError)>
+        requires firmly { P.firm ≡ true → BeginsFirmly P.cuts P.slows firmness (N.state nor) }
         ensures ok { IfOk result (λ map. Mounted (N.state nor) map) }
         ensures settled { IfOk result (λ map. IsSettledMap map.memory) }
         ensures journals { firmness ≡ Firmness.Firm → is_unmarked (N.state nor).memory ≡ false
@@ -147,6 +164,9 @@ impl<N: Nor> SectorMap<N> {
         ensures ok { OnOk result (into.new ≡ sector_at self.old.memory sector) }
         ensures same { self.new.memory ≡ self.old.memory }
         ensures cut { IsErrOf result NorError.Cut → KeepsMap self.old.memory self.new.memory }
+        ensures firmly { WhileFirm P.firm P.cuts P.slows self.old
+            (IsErrOf result NorError.Cut → KeepsAtLoss self.old.memory (bits_in self.new)
+            × StandsAtEachDraw (bits_in self.new)) }
         ensures ends { EndsFirmly result self.old self.new }
     {
         if let Some(error) = self.latched {
@@ -173,6 +193,9 @@ impl<N: Nor> SectorMap<N> {
         ensures cut { IsErrOf result NorError.Cut
             → SetLeaves sector content.now self.old.memory self.new.memory }
         ensures size { length self.new.memory ≡ length self.old.memory }
+        ensures firmly { WhileFirm P.firm P.cuts P.slows self.old (IsErrOf result NorError.Cut
+            → SetsAtLoss sector content.now self.old.memory (bits_in self.new)
+            × StandsAtEachDraw (bits_in self.new)) }
         ensures ends { EndsFirmly result self.old self.new }
     {
         if let Some(error) = self.latched {
@@ -199,6 +222,9 @@ impl<N: Nor> SectorMap<N> {
         ensures cut { IsErrOf result NorError.Cut
             → SetLeaves sector zeros self.old.memory self.new.memory }
         ensures size { length self.new.memory ≡ length self.old.memory }
+        ensures firmly { WhileFirm P.firm P.cuts P.slows self.old (IsErrOf result NorError.Cut
+            → SetsAtLoss sector zeros self.old.memory (bits_in self.new)
+            × StandsAtEachDraw (bits_in self.new)) }
         ensures ends { EndsFirmly result self.old self.new }
     {
         if let Some(error) = self.latched {
@@ -230,6 +256,9 @@ impl<N: Nor> SectorMap<N> {
         ensures unchanged { IfOk result (λ more. IsFalse more → self.new.memory ≡ self.old.memory) }
         ensures cut { IsErrOf result NorError.Cut → KeepsMap self.old.memory self.new.memory }
         ensures size { length self.new.memory ≡ length self.old.memory }
+        ensures firmly { WhileFirm P.firm P.cuts P.slows self.old
+            (IsErrOf result NorError.Cut → KeepsAtLoss self.old.memory (bits_in self.new)
+            × StandsAtEachDraw (bits_in self.new)) }
         ensures ends { EndsFirmly result self.old self.new }
     {
         if let Some(error) = self.latched {
@@ -254,6 +283,9 @@ impl<N: Nor> SectorMap<N> {
         ensures unchanged { IfOk result (λ more. IsFalse more → self.new.memory ≡ self.old.memory) }
         ensures cut { IsErrOf result NorError.Cut → KeepsMap self.old.memory self.new.memory }
         ensures size { length self.new.memory ≡ length self.old.memory }
+        ensures firmly { WhileFirm P.firm P.cuts P.slows self.old
+            (IsErrOf result NorError.Cut → KeepsAtLoss self.old.memory (bits_in self.new)
+            × StandsAtEachDraw (bits_in self.new)) }
         ensures ends { EndsFirmly result self.old self.new }
     {
         if let Some(error) = self.latched {
@@ -275,6 +307,9 @@ impl<N: Nor> SectorMap<N> {
             (unused self.new.memory)) }
         ensures cut { IsErrOf result NorError.Cut → KeepsMap self.old.memory self.new.memory }
         ensures size { length self.new.memory ≡ length self.old.memory }
+        ensures firmly { WhileFirm P.firm P.cuts P.slows self.old
+            (IsErrOf result NorError.Cut → KeepsAtLoss self.old.memory (bits_in self.new)
+            × StandsAtEachDraw (bits_in self.new)) }
         ensures ends { EndsFirmly result self.old self.new }
     {
         if let Some(error) = self.latched {
@@ -306,6 +341,9 @@ impl<N: Nor> SectorMap<N> {
         ensures erased { OnOk result (IsSpareIn self.new.memory block) }
         ensures cut { IsErrOf result NorError.Cut → KeepsMap self.old.memory self.new.memory }
         ensures size { length self.new.memory ≡ length self.old.memory }
+        ensures firmly { WhileFirm P.firm P.cuts P.slows self.old
+            (IsErrOf result NorError.Cut → KeepsAtLoss self.old.memory (bits_in self.new)
+            × StandsAtEachDraw (bits_in self.new)) }
         ensures ends { EndsFirmly result self.old self.new }
     {
         if let Some(error) = self.latched {
@@ -327,6 +365,9 @@ impl<N: Nor> SectorMap<N> {
         ensures clean { IfOk result (λ clean. IsTrue clean → IsClean self.old.memory) }
         ensures not_clean { IfOk result (λ clean. IsFalse clean → IsClean self.old.memory → ⊥) }
         ensures same { self.new.memory ≡ self.old.memory }
+        ensures firmly { WhileFirm P.firm P.cuts P.slows self.old
+            (IsErrOf result NorError.Cut → KeepsAtLoss self.old.memory (bits_in self.new)
+            × StandsAtEachDraw (bits_in self.new)) }
         ensures ends { EndsFirmly result self.old self.new }
     {
         if let Some(error) = self.latched {
@@ -376,7 +417,7 @@ impl<N: Nor> SectorMap<N> {
     pub fn arm(&mut self, count: u32, kind: u8, mask: u8)
         ensures { self.new ≡ self.old }
     {
-        self.stock.arm(count, kind, mask)
+        self.stock.arm_loss(count, kind, mask)
     }
 
     /// From now on slots and blocks are chosen so that all blocks wear alike: no two differ by more
@@ -399,6 +440,8 @@ impl<N: Nor> SectorMap<N> {
     /// Gives the memory back. Where no Slow is latched it is healthy behind its superblock.
     pub fn into_inner(self) -> N
         ensures behind { IsBehind self (N.state result) }
+        ensures firm { WhileFirm P.firm P.cuts P.slows self
+            (HoldsFirmDisk (bits_in (N.state result))) }
         ensures store { self.is_slow ≡ false → IsStore (N.state result).memory }
     {
         let SectorMap {
@@ -406,6 +449,7 @@ impl<N: Nor> SectorMap<N> {
             table: _table,
             latched: _latched,
             firmness: _,
+            of: _,
         } = self;
         uncover(stock)
     }
@@ -447,7 +491,12 @@ fn take_tables(alloc: Global, chip: Geometry) -> Result<Tables, AllocError>
 }
 
 /// Steps 2 to 10 of a mount: of a memory whose superblock was looked at.
-fn recover<N: Nor>(alloc: Global, nor: N, firmness: Firmness) -> Result<SectorMap<N>, (N, MapError)>
+fn recover<N: Nor, P: Provenance>(
+    alloc: Global,
+    nor: N,
+    firmness: Firmness,
+) -> Result<SectorMap<N, P>, (N, MapError)>
+    requires firmly { P.firm ≡ true → BeginsFirmly P.cuts P.slows firmness (N.state nor) }
     requires superblock { IsLaidOut (N.state nor).memory }
     ensures ok { IfOk result (λ map. Mounted (N.state nor) map) }
     ensures settled { IfOk result (λ map. IsSettledMap map.memory) }
@@ -474,11 +523,12 @@ fn recover<N: Nor>(alloc: Global, nor: N, firmness: Firmness) -> Result<SectorMa
 }
 
 /// Steps 4 to 10 of a mount: of slots whose journals were recovered.
-fn fill<N: Nor>(
+fn fill<N: Nor, P: Provenance>(
     slots: SectorSlots<N>,
     tables: Tables,
     firmness: Firmness,
-) -> Result<SectorMap<N>, (N, MapError)>
+) -> Result<SectorMap<N, P>, (N, MapError)>
+    requires firmly { P.firm ≡ true → FillsFirmly P.cuts P.slows firmness slots }
     requires ready { IsNorReady slots }
     requires table { vec_len tables.table ≡ sector_count (length slots.memory) }
     requires states { vec_len tables.states ≡ slot_count slots.memory }
@@ -501,6 +551,7 @@ fn fill<N: Nor>(
             table,
             latched: None,
             firmness,
+            of: PhantomData,
         }),
         Ok(false) => Err((uncover(stock), MapError::Corrupt)),
         Err(NorError::Cut) => Err((uncover(stock), MapError::Cut)),
@@ -542,6 +593,10 @@ fn renew<S: Reclaim>(
     firmness: Firmness,
 ) -> Result<bool, NorError>
     requires size { length table.old ≡ sector_count (length (S.state stock.old).memory) }
+    ensures firmly { firmness ≡ Firmness.Firm → (S.state stock.old).is_slow ≡ false
+        → HoldsFirmDisk (bits_in (S.state stock.old)) → IfOk result (λ sound. IsTrue sound
+        → (layout_in (S.state stock.new).memory ≡ 2)
+        × IsFirmDiskIn (bits_in (S.state stock.new)) (S.counts stock.new)) }
     ensures ok { IfOk result (λ sound. IsTrue sound
         → Renewed table.new (S.state stock.old) (S.state stock.new) (S.indexed stock.new)) }
     ensures corrupt { IfOk result (λ sound. IsFalse sound

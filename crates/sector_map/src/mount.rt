@@ -6,6 +6,7 @@ ghost use Rattle.std.specs.Prelude.{IfOk, IfErr, IsTrue, IsFalse};
 ghost use Rattle.std.specs.Result.{IsErrOf};
 ghost use Rattle.chip_model.specs.Geometry.{sector_count};
 ghost use Rattle.nor_driver.specs.State.{bits_in};
+ghost use Rattle.nor_layout.specs.Superblock.{layout_in};
 ghost use Rattle.erase_journal.specs.Blocks.{SameChip};
 ghost use Rattle.erase_journal.specs.Journals.{IsHealthy};
 ghost use Rattle.erase_journal.specs.Steps.{RefusesFirmly, SucceedsSettled, EndsFirmly};
@@ -15,8 +16,9 @@ ghost use Rattle.sector_slots.specs.Slots.{slot_at, slot_count, data_blocks, kin
 ghost use Rattle.sector_slots.specs.Blocks.{AreSettled, HasGroupRoom};
 ghost use Rattle.sector_slots.specs.Sectors.{IsSoundMap, HoldsSectors};
 ghost use Rattle.sector_stock.specs.Copy.{KeepsSectors, EndsCopy, IsCommittedIn};
-ghost use Rattle.sector_stock.specs.Losses.{AreSuspect};
+ghost use Rattle.sector_stock.specs.Losses.{AreSuspect, IsFirmDiskIn};
 ghost use Rattle.sector_slots.specs.Weak.{IsDoubtedStore, IsHalfStore};
+ghost use Rattle.sector_map.specs.Filling.{IsRecoveredChip};
 ghost use Rattle.sector_map.specs.Firm.{AreReadBlocks, KeepsRead, MakesHeld};
 ghost use Rattle.sector_map.specs.Found.{FoundIn, RoomSeen, leaves_room};
 ghost use Rattle.sector_map.specs.Marking.{is_unmarked, may_have_groups};
@@ -56,6 +58,9 @@ pub fn mount_slots<S: Reclaim>(
         → IsDoubtedStore (bits_in (S.state stock.new))) }
     ensures suspect { firmness ≡ Firmness.Firm → IfOk result (λ sound. IsTrue sound
         → AreSuspect (S.counts stock.new)) }
+    ensures disk { firmness ≡ Firmness.Firm → IsRecoveredChip (bits_in (S.state stock.old))
+        → IfOk result (λ sound. IsTrue sound → (layout_in (S.state stock.new).memory ≡ 2)
+        × IsFirmDiskIn (bits_in (S.state stock.new)) (S.counts stock.new)) }
     ensures corrupt { IfOk result (λ sound. IsFalse sound
         → (IsSoundMap (S.state stock.old).memory → ⊥)
         × ((S.state stock.new).memory ≡ (S.state stock.old).memory)) }
@@ -162,6 +167,8 @@ fn repair<S: Reclaim>(
     ensures ok { OnOk result (Repairs (S.state stock.old).memory table.new
         (S.state stock.new).memory) }
     ensures indexed { OnOk result (S.indexed stock.new ≡ true) }
+    ensures listed { OnOk result (length (S.counts stock.new)
+        ≡ data_blocks (S.state stock.new).memory) }
     ensures store { OnOk result (AreReadBlocks (bits_in (S.state stock.old)) begun
         → IsDoubtedStore (bits_in (S.state stock.new))) }
     ensures cut { IsErrOf result NorError.Cut → IsHealthy (S.state stock.old).memory

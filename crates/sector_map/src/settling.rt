@@ -32,6 +32,8 @@ pub(crate) fn renew_journals<S: Reclaim>(
     ensures renews { OnOk result (RenewsAll (unused (S.state stock.old).memory)
         (unused (S.state stock.new).memory)) }
     ensures suspect { firmness ≡ Firmness.Firm → OnOk result (AreSuspect (S.counts stock.new)) }
+    ensures firmly { firmness ≡ Firmness.Firm → KeepsFirmly result (S.state stock.old)
+        (S.counts stock.old) (S.state stock.new) (S.counts stock.new) }
     ensures cut { IsErrOf result NorError.Cut
         → KeepsMap (S.state stock.old).memory (S.state stock.new).memory }
     ensures size { length (S.state stock.new).memory ≡ length (S.state stock.old).memory }

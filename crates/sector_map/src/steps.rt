@@ -23,9 +23,11 @@ ghost use Rattle.sector_map.specs.Maps.{IsEven, Nearer};
 ghost use Rattle.sector_map.specs.Losses.{KeepsFirmly, SetsFirmly};
 
 use crate::Held;
+use crate::stock::Stock;
 use crate::table::{LiveSlots, follow_copied, keep_one, unset};
-use nor_driver::NorError;
+use nor_driver::{Nor, NorError};
 use nor_layout::{Generation, Tag};
+use sector_slots::SlotCalls;
 use sector_stock::{Purpose, RENEW_NOW, RENEW_SOON, Reclaim};
 
 /// Writes a sector into a slot that it takes, and retires the slot that held it, if one did. Before
@@ -664,26 +666,34 @@ fn replace_held<S: Reclaim>(
 
 /// The content of a sector into `into`, 512 bytes, from the slot that holds it; zeros where none
 /// does. After an error `into` holds any bytes.
-pub(crate) fn find_sector<S: Reclaim>(
-    stock: &mut S,
+pub(crate) fn find_sector<N: Nor>(
+    stock: &mut Stock<N>,
     holder: Option<Held>,
     into: &mut [u8],
 ) -> Result<(), NorError>
-    requires holder { IfSome holder (λ held. held.slot < slot_count (S.state stock.old).memory) }
+    requires holder { IfSome holder (λ held. held.slot
+        < slot_count (⟦<Stock<N> as SlotCalls>⟧.state stock.old).memory) }
     requires room { length into.old ≡ 512 }
-    requires ready { IsNorReady (S.state stock.old) }
-    requires settled { IsSettled (S.state stock.old).memory }
-    ensures ok { OnOk result (IsSoundMap (S.state stock.old).memory
-        → IsSingle (S.state stock.old).memory → (sector : ℕ)
-        → HeldBy holder sector (S.state stock.old).memory
-        → into.new ≡ sector_at (S.state stock.old).memory sector) }
-    ensures same { (S.state stock.new).memory ≡ (S.state stock.old).memory }
-    ensures index { S.indexed stock.new ≡ S.indexed stock.old }
-    ensures ends { EndsFirmly result (S.state stock.old) (S.state stock.new) }
+    requires ready { IsNorReady (⟦<Stock<N> as SlotCalls>⟧.state stock.old) }
+    requires settled { IsSettled (⟦<Stock<N> as SlotCalls>⟧.state stock.old).memory }
+    ensures ok { OnOk result (IsSoundMap (⟦<Stock<N> as SlotCalls>⟧.state stock.old).memory
+        → IsSingle (⟦<Stock<N> as SlotCalls>⟧.state stock.old).memory → (sector : ℕ)
+        → HeldBy holder sector (⟦<Stock<N> as SlotCalls>⟧.state stock.old).memory
+        → into.new ≡ sector_at (⟦<Stock<N> as SlotCalls>⟧.state stock.old).memory sector) }
+    ensures same { (⟦<Stock<N> as SlotCalls>⟧.state stock.new).memory
+        ≡ (⟦<Stock<N> as SlotCalls>⟧.state stock.old).memory }
+    ensures weak { (⟦<Stock<N> as SlotCalls>⟧.state stock.new).weak
+        ≡ (⟦<Stock<N> as SlotCalls>⟧.state stock.old).weak }
+    ensures index { ⟦<Stock<N> as SlotCalls>⟧.indexed stock.new
+        ≡ ⟦<Stock<N> as SlotCalls>⟧.indexed stock.old }
+    ensures counts { ⟦<Stock<N> as Reclaim>⟧.counts stock.new
+        ≡ ⟦<Stock<N> as Reclaim>⟧.counts stock.old }
+    ensures ends { EndsFirmly result (⟦<Stock<N> as SlotCalls>⟧.state stock.old)
+        (⟦<Stock<N> as SlotCalls>⟧.state stock.new) }
 {
     match holder {
         Some(held) => {
-            stock.content(held.slot, into)?;
+            stock.read(held.slot, into)?;
         }
         None => into.fill(0),
     }

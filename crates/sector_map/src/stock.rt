@@ -1,10 +1,13 @@
 //! `Stock`, which implements `Reclaim`: slots with their index in memory. The choices and the steps
 //! are functions of `sector_stock`; here each keeps the index and its flag.
 
-ghost use Rattle.std.specs.Prelude.{◌≡◌, ◌<◌, ℕ, false, true, length, IfOk, IsTrue, IsFalse};
+ghost use Rattle.std.specs.Prelude.{◌≡◌, ◌<◌, ℕ, List, false, true, length, OnOk, IfOk, IsTrue};
+ghost use Rattle.std.specs.Prelude.{IsFalse};
 ghost use Rattle.erase_journal.specs.Steps.{EndsFirmly};
 ghost use Rattle.sector_slots.specs.Blocks.{AreAtRest};
-ghost use Rattle.sector_slots.specs.Slots.{slot_count, data_blocks, kind_at, IsClean};
+ghost use Rattle.nor_layout.specs.declared.header.Tag.{Tag as TagOf};
+ghost use Rattle.sector_slots.specs.Slots.{Live, stored_at, slot_count, data_blocks, kind_at};
+ghost use Rattle.sector_slots.specs.Slots.{IsClean};
 ghost use Rattle.sector_stock.specs.Index.{IsStocked, erases_of};
 ghost use Rattle.sector_stock.specs.Losses.{KeepsSuspects};
 ghost use Rattle.sector_stock.specs.declared.policy.Policy.TheVariants as policies;
@@ -106,6 +109,45 @@ impl<N: Nor> Stock<N> {
         slots
     }
 
+    /// The content of a slot that holds a sector, as `SlotCalls::content` reads it. Nothing changes
+    /// of what is kept of each block.
+    pub fn read(&mut self, slot: u16, into: &mut [u8]) -> Result<(), NorError>
+        requires number { slot < slot_count (⟦<Stock<N> as SlotCalls>⟧.state self.old).memory }
+        requires room { length into.old ≡ 512 }
+        ensures ok { OnOk result ((tag : TagOf) (content : List ℕ)
+            → stored_at (⟦<Stock<N> as SlotCalls>⟧.state self.old).memory slot ≡ Live tag content
+            → into.new ≡ content) }
+        ensures same { (⟦<Stock<N> as SlotCalls>⟧.state self.new).memory
+            ≡ (⟦<Stock<N> as SlotCalls>⟧.state self.old).memory }
+        ensures weak { (⟦<Stock<N> as SlotCalls>⟧.state self.new).weak
+            ≡ (⟦<Stock<N> as SlotCalls>⟧.state self.old).weak }
+        ensures index { ⟦<Stock<N> as SlotCalls>⟧.indexed self.new
+            ≡ ⟦<Stock<N> as SlotCalls>⟧.indexed self.old }
+        ensures counts { ⟦<Stock<N> as Reclaim>⟧.counts self.new
+            ≡ ⟦<Stock<N> as Reclaim>⟧.counts self.old }
+        ensures cursors { ⟦<Stock<N> as Reclaim>⟧.cursors self.new
+            ≡ ⟦<Stock<N> as Reclaim>⟧.cursors self.old }
+        ensures ends { EndsFirmly result (⟦<Stock<N> as SlotCalls>⟧.state self.old)
+            (⟦<Stock<N> as SlotCalls>⟧.state self.new) }
+    {
+        self.slots.content(slot, into)
+    }
+
+    /// Arms a loss of power in a simulated chip, as `SlotCalls::arm` does. Nothing of the index
+    /// changes.
+    pub fn arm_loss(&mut self, count: u32, kind: u8, mask: u8)
+        ensures same { ⟦<Stock<N> as SlotCalls>⟧.state self.new
+            ≡ ⟦<Stock<N> as SlotCalls>⟧.state self.old }
+        ensures index { ⟦<Stock<N> as SlotCalls>⟧.indexed self.new
+            ≡ ⟦<Stock<N> as SlotCalls>⟧.indexed self.old }
+        ensures counts { ⟦<Stock<N> as Reclaim>⟧.counts self.new
+            ≡ ⟦<Stock<N> as Reclaim>⟧.counts self.old }
+        ensures cursors { ⟦<Stock<N> as Reclaim>⟧.cursors self.new
+            ≡ ⟦<Stock<N> as Reclaim>⟧.cursors self.old }
+    {
+        self.slots.arm(count, kind, mask)
+    }
+
     /// Whether what reads as free is erased, by reading each data block until one is met that
     /// isn't; exact where no copying goes on.
     pub fn is_clean(&mut self) -> Result<bool, NorError>
@@ -117,8 +159,14 @@ impl<N: Nor> Stock<N> {
             → IsClean (⟦<Stock<N> as SlotCalls>⟧.state self.old).memory → ⊥) }
         ensures same { (⟦<Stock<N> as SlotCalls>⟧.state self.new).memory
             ≡ (⟦<Stock<N> as SlotCalls>⟧.state self.old).memory }
+        ensures weak { (⟦<Stock<N> as SlotCalls>⟧.state self.new).weak
+            ≡ (⟦<Stock<N> as SlotCalls>⟧.state self.old).weak }
         ensures index { ⟦<Stock<N> as SlotCalls>⟧.indexed self.new
             ≡ ⟦<Stock<N> as SlotCalls>⟧.indexed self.old }
+        ensures counts { ⟦<Stock<N> as Reclaim>⟧.counts self.new
+            ≡ ⟦<Stock<N> as Reclaim>⟧.counts self.old }
+        ensures cursors { ⟦<Stock<N> as Reclaim>⟧.cursors self.new
+            ≡ ⟦<Stock<N> as Reclaim>⟧.cursors self.old }
         ensures ends { EndsFirmly result (⟦<Stock<N> as SlotCalls>⟧.state self.old)
             (⟦<Stock<N> as SlotCalls>⟧.state self.new) }
     {

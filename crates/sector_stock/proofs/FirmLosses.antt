@@ -9,7 +9,7 @@ use Rattle.nor_driver.specs.State.{NorState, IsFirmer, bits_in}
 use Rattle.erase_journal.specs.Blocks.{OnlyBlock, WithErased}
 use Rattle.erase_journal.specs.Journals.{IsSettled}
 use Rattle.erase_journal.specs.Steps.{SucceedsSettled}
-use Rattle.erase_journal.specs.Torn.{BlockInterrupted, SameBeside}
+use Rattle.erase_journal.specs.Torn.{BlockInterrupted, OpensOnly, SameBeside}
 use Rattle.erase_journal.specs.Weak.{AreFirmJournals}
 use Rattle.sector_slots.specs.Slots.{Free, slot_at, slot_count, data_blocks, kind_at, raw_slot, IsSpareIn}
 use Rattle.sector_slots.specs.Blocks.{IsAtRest, AreAtRest}
@@ -72,8 +72,8 @@ erased-disk c a b blocks blocks' h room low is done w wholly store =
     firmed-disk a b blocks blocks' h room done (erased-firm c a.memory b.memory room low is w) store (wholly-room (bits_in b) c (omega (arith, low, n)) (erased-spare b.memory c w.erased) wholly)
 
 pub erase-loses : (c : ℕ) (a b : NorState) (blocks : List BlockState) → IsFirmDiskIn (bits_in a) blocks → AreAtRest (kind_at a.memory) (data_blocks a.memory) → c < data_blocks a.memory → IsSpareIn a.memory c → length b.memory ≡ length a.memory
-    → SameBeside (c + 4) (bits_in a) (bits_in b) → (IsSettled a.memory → AreFirmJournals (bits_in a) → BlockInterrupted (c + 4) (bits_in a) (bits_in b)) → LosesNothing a.memory (bits_in b)
-erase-loses c a b blocks h rest low is size beside cut = loses-in (bits_in a) (suspects_in blocks) (bits_in b) h (erased c low (spare-erasable c a.memory rest low is) (rest-sources a.memory rest) size beside (cut h.settled h.journals))
+    → SameBeside (c + 4) (bits_in a) (bits_in b) → (IsSettled a.memory → AreFirmJournals (bits_in a) → BlockInterrupted (c + 4) (bits_in a) (bits_in b)) → (IsSettled a.memory → AreFirmJournals (bits_in a) → OpensOnly (c + 4) (bits_in b)) → LosesNothing a.memory (bits_in b)
+erase-loses c a b blocks h rest low is size beside cut opens = loses-in (bits_in a) (suspects_in blocks) (bits_in b) h (erased c low (spare-erasable c a.memory rest low is) (rest-sources a.memory rest) size beside (cut h.settled h.journals) (opens h.settled h.journals))
 
 -- The first free slot of a block that isn't wholly free was killed, or that was interrupted.
 pub lowest-place : (w : ℕ) (m : List ℕ) → AreAtRest (kind_at m) (data_blocks m) → w < slot_count m → slot_at m w ≡ Free → HasNoneFreeBefore w m → IsLowestFreePlace (w / 7) (w % 7) m

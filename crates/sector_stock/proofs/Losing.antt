@@ -1,7 +1,7 @@
 -- What a loss of power in a call that keeps the sectors leaves, after other calls that kept them.
 use Rattle.std.proofs.Common.{◌≡◌, ℕ, Bool, List, refl}
 use Rattle.chip_model.specs.Wavering.{Bits}
-use Rattle.sector_slots.specs.Losses.{StepInterrupted, HasWholeSources, IsFirmDisk, none}
+use Rattle.sector_slots.specs.Losses.{StepInterrupted, IsFirmDisk}
 use Rattle.sector_stock.specs.Copy.{KeepsSectors}
 use Rattle.sector_stock.specs.Losses.{LosesNothing}
 use Rattle.sector_stock.proofs.Copying.{after-keeps}
@@ -17,10 +17,6 @@ same-keeps m = record {
 -- in the first call
 pub loses-in : (a : Bits) (suspect : ℕ → Bool) (b : Bits) → IsFirmDisk a suspect → StepInterrupted a suspect b → LosesNothing a.shown b
 loses-in a suspect b h change = record { before = a; suspect = suspect; disk = h; keeps = same-keeps a.shown; change = change }
-
--- before anything changed
-pub loses-none : (a : Bits) (suspect : ℕ → Bool) (b : Bits) → IsFirmDisk a suspect → HasWholeSources a.shown → b ≡ a → LosesNothing a.shown b
-loses-none a suspect b h sources same = loses-in a suspect b h (none sources same)
 
 -- in a later one
 pub loses-later : (m m1 : List ℕ) (b : Bits) → KeepsSectors m m1 → LosesNothing m1 b → LosesNothing m b

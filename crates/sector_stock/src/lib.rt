@@ -15,9 +15,10 @@
 //! sector as it was. `end_void`, `end_committed` and `end_erased` end a copying that a mount finds,
 //! and change no sector; nor does `move_afresh`, which erases a block before it copies into it.
 //! What was free at a firm mount is suspect (`suspect_free`), until `firm_free` or a copy makes its
-//! block firm. On a chip that a firm mount left, each call that answers Ok leaves such a one
-//! (`disk`); cut, what is read at a later power-on is said of the state before the one change that
-//! was interrupted, and of that change (`cut_bits`, specs/Losses.antt). No call takes memory.
+//! block firm. On a chip that a firm mount left, a call that changes the memory and answers Ok
+//! leaves such a one (`disk`), `write` and `release` where the slot is as specs/Losses.antt asks;
+//! cut, what is read at a later power-on is said of the state before the one change that was
+//! interrupted, and of that change (`cut_bits`). No call takes memory.
 //!
 //! Left to the crate above: which slot holds which sector, and that no two live slots are of one
 //! sector. Source: own, layout 2.

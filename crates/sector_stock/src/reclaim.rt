@@ -44,10 +44,12 @@ use sector_slots::FirmCalls;
 
 /// A store of slots with an index of them in memory, which `fill` makes and the other calls here
 /// keep; the calls of `SlotCalls` that change the memory don't. On a chip that a firm mount left a
-/// call here that answers Ok leaves such a one, also by what `counts` lists as suspect (`disk`).
-/// Where it is cut, there is a state before the change that the loss interrupted at which the chip
-/// was so, with the sectors of the call's start (`cut_bits`, specs/Losses.antt). No call takes
-/// memory. Source: own, layout 2.
+/// call here that changes the memory and answers Ok leaves such a one, also by what `counts` lists
+/// as suspect (`disk`). Where it is cut, there is a state before the change that the loss
+/// interrupted at which the chip was so, with the sectors of the call's start (`cut_bits`). Of
+/// `write` and `release` both are said where the slot is as `TakesSector` or `GivesUpSector` says
+/// (specs/Losses.antt). `fill` begins the flags of suspicion anew: after a firm mount
+/// `suspect_free` comes behind it. No call takes memory. Source: own, layout 2.
 pub trait Reclaim: FirmCalls {
     /// How it chooses slots and blocks.
     ghost policy: { Self → Policy };
@@ -66,6 +68,7 @@ pub trait Reclaim: FirmCalls {
             ≡ data_blocks (Self.state self.new).memory) }
         ensures policy { OnOk result (policy self.new ≡ policy self.old) }
         ensures same { (Self.state self.new).memory ≡ (Self.state self.old).memory }
+        ensures weak { (Self.state self.new).weak ≡ (Self.state self.old).weak }
         ensures counted { OnOk result ((c : ℕ) → c < data_blocks (Self.state self.new).memory
             → erases_of (counts self.new) c ≡ 0) }
         ensures even { OnOk result (policy self.old ≡ policies.Level

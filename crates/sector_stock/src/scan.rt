@@ -37,6 +37,7 @@ pub fn fill_index<S: SlotCalls>(
     ensures states_size { length states.new ≡ length states.old }
     ensures blocks_size { length blocks.new ≡ length blocks.old }
     ensures same { (S.state slots.new).memory ≡ (S.state slots.old).memory }
+    ensures weak { (S.state slots.new).weak ≡ (S.state slots.old).weak }
     ensures ends { EndsFirmly result (S.state slots.old) (S.state slots.new) }
 {
     let count = slots.blocks();

@@ -9,9 +9,10 @@ use crate::refusals::{of_nor, of_tidy};
 use crate::words::Words;
 use sector_map::SectorMap;
 use std::alloc::Global;
+use std::marker::Brand;
 
 /// The map of a simulated chip.
-pub(crate) type OnMap = SectorMap<OnDriver>;
+pub(crate) type OnMap = SectorMap<OnDriver, Brand>;
 
 /// Writes a sector.
 fn replace(map: &mut OnMap, sector: u16, content: &[u8]) -> Result<Came, Fault> {

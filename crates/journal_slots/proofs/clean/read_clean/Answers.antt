@@ -14,6 +14,7 @@ loop-block-preserved g c =
     let b = c.loop-block.block in
     record {
       same = c.read_clean_block.ensures.same ∙ c.loop-block.invariant.same;
+      weak = c.read_clean_block.ensures.weak ∙ c.loop-block.invariant.weak;
       since = repeated-more b (b + 1) c.args.journal.now c.loop-block.journal c.read_clean_block.new.journal c.loop-block.invariant.since c.in_ok-read_clean_block.ensures.ends;
       clean = clean-next m b c.loop-block.invariant.clean (subst (λ z. IsCleanBlock (data_block z b)) c.loop-block.invariant.same (c.in_ok-read_clean_block.ensures.clean (cc c.if-not-branch.false)));
     }

@@ -1,4 +1,4 @@
-use Rattle.std.proofs.Common.{◌∙◌, ap, sym, subst}
+use Rattle.std.proofs.Common.{◌∙◌, ap, length, sym, subst}
 use Rattle.std.proofs.lemmas.Result.{err_from_is_err_and}
 use Rattle.chip_model.specs.Geometry.{sector_count}
 use Rattle.erase_journal.specs.Journals.{IsHealthy}
@@ -140,6 +140,6 @@ returns-clause-moves g c =
     let last = c.in_ok-follow_block.ensures.ends.kept.bits in
     let same : s4.memory ≡ s3.memory = c.follow_block.ensures.same in
     let first : s2.memory ≡ s0.memory = c.lowest_spare.ensures.same ∙ c.has_begun.ensures.same in
-    afresh-moves s0 s4 s t all.kept.bits (subst (λ (z : List ℕ). OthersStay s t z s4.memory) first (subst (λ (z : List ℕ). OthersStay s t s2.memory z) (sym same) (e.others able)))
+    afresh-moves s0 s4 s t all.kept.bits (ap (λ m. length m) same ∙ (copied.same_length ∙ ap (λ m. length m) first)) (subst (λ (z : List ℕ). OthersStay s t z s4.memory) first (subst (λ (z : List ℕ). OthersStay s t s2.memory z) (sym same) (e.others able)))
     (are-firm-stays (bits_in s3) (bits_in s4) (block_place s) 4096 last e.firm) (are-firm-stays (bits_in s3) (bits_in s4) (block_place t) 4096 last e.target)
     (subst (λ (z : List ℕ). IsSpareIn z s) (sym same) copied.erased) (subst (λ (z : List ℕ). s < data_blocks z) (sym same) (let n = copied.same_length in rw n at.number)) (subst (λ (z : List ℕ). is_group (kind_at z t) ≡ false) (sym same) (ap is_group copied.settled))

@@ -7,7 +7,8 @@ use Rattle.erase_journal.specs.Weak.{AreRecoveredJournals}
 use Rattle.sector_slots.specs.Weak.{IsHalfStore}
 use Rattle.sector_map.specs.Marking.{is_unmarked}
 use Rattle.sector_map.specs.Maps.{IsServing, shown_with}
-use Rattle.sector_map.specs.Filling.{Filled, FillCut}
+use Rattle.sector_map.specs.Filling.{Filled, FillCut, FillsFirmly}
+use Rattle.sector_map.proofs.FirmBegins.{begun-since, begun-firm}
 use Rattle.sector_map.proofs.Restoring.{served-after}
 use Rattle.sector_map.proofs.Retiring.{single-tabled}
 use Rattle.sector_map.proofs.Opening.{filled, fill-cut}
@@ -22,6 +23,9 @@ invariant_of-result g c =
       standing = subst (λ z. IsServing z now.slots now.indexed) (sym items)
           (served-after c.mount_slots.new.table c.new-stock.result.slots now.slots now.indexed (c.in-Ok-true.ensures.sound (cc c.in-Ok-true.is)) c.in-Ok-true.ensures.ends
           (subst (λ s. IsNorReady s) (sym c.new-stock.ensures.same) c.requires.ready) (c.in-Ok-true.ensures.indexed (cc c.in-Ok-true.is)));
+      since = begun-since _ _ _ c.args.firmness c.new-stock.result.slots now.slots (λ is. subst (λ s. FillsFirmly g.P.Provenance.cuts g.P.Provenance.slows c.args.firmness s) (sym c.new-stock.ensures.same) (c.requires.firmly is)) c.in-Ok-true.ensures.ends.kept;
+      firm = begun-firm _ _ _ c.args.firmness c.new-stock.result.slots now.slots now.blocks.items (λ is. subst (λ s. FillsFirmly g.P.Provenance.cuts g.P.Provenance.slows c.args.firmness s) (sym c.new-stock.ensures.same) (c.requires.firmly is))
+          (λ is chip. c.in-Ok-true.ensures.disk is chip (cc c.in-Ok-true.is));
     }
 
 pub returns-in-Ok-true-clause-ok : goal.returns-in-Ok-true-clause-ok

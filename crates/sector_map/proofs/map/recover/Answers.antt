@@ -7,7 +7,8 @@ use Rattle.sector_map.specs.Marking.{is_unmarked}
 use Rattle.sector_map.proofs.MountFirmly.{recovered-chip}
 use Rattle.sector_map.proofs.Marking.{unmarked-same}
 use Rattle.erase_journal.specs.Recovery.{RecoverFails}
-use Rattle.sector_map.specs.Filling.{Filled, FillFails}
+use Rattle.sector_map.specs.Filling.{Filled, FillFails, FillsFirmly}
+use Rattle.sector_map.proofs.FirmBegins.{recovered-fills}
 use Rattle.sector_map.proofs.Opening.{filled-mounted, filled-fails, recovery-corrupt, recovery-cut}
 use Rattle.sector_map.proofs.map.recover.Goals as goal
 
@@ -44,3 +45,11 @@ returns-in-Ok-recover_as-clause-store g c firmly unmarked h =
     let same = unmarked-same a.memory j.memory c.in-Ok-recover_as.ensures.ok.blocks in
     c.fill.ensures.store firmly (subst (λ (s : NorState). is_unmarked s.memory ≡ false) e (same ∙ unmarked))
     (subst (λ (s : NorState). IsHalfStore (bits_in s)) e (recovered-chip a j c.in-Ok-recover_as.ensures.ok c.in-Ok-recover_as.ensures.erased h))
+
+pub fill-requires-clause-firmly : goal.fill-requires-clause-firmly
+fill-requires-clause-firmly g c is =
+    let a = g.N.Nor.state c.args.nor in
+    let j = c.in-Ok-recover_as.journal in
+    let e = c.in-Ok-recover_as.ensures in
+    let h = c.requires.firmly is in
+    subst (λ s. FillsFirmly g.P.Provenance.cuts g.P.Provenance.slows c.args.firmness s) (sym c.new.ensures) (recovered-fills _ _ c.args.firmness a j e.ok (e.firm h.firmness_is h.fit.journals) (recovered-chip a j e.ok e.erased h.fit.store) h)

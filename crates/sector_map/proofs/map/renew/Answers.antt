@@ -4,6 +4,7 @@ use Rattle.nor_driver.proofs.CallLaws.{done-of, fails-of}
 use Rattle.erase_journal.specs.Recovery.{RestoreFails}
 use Rattle.erase_journal.specs.Steps.{SucceedsSettled}
 use Rattle.sector_map.proofs.Restoring.{renew-ok, renew-corrupt, renew-fails, restore-cut, restore-corrupt}
+use Rattle.sector_map.proofs.FirmFilling.{restored-chip}
 use Rattle.sector_map.proofs.map.renew.Goals as goal
 
 pub returns-in-Ok-clause-ok : goal.returns-in-Ok-clause-ok
@@ -25,3 +26,6 @@ pub returns-in-Err-Corrupt-clause-corrupt : goal.returns-in-Err-Corrupt-clause-c
 returns-in-Err-Corrupt-clause-corrupt g c is =
     restore-corrupt (g.S.SlotCalls.state c.args.stock.now) (g.S.SlotCalls.state c.restore.new.self)
     (subst (λ e. RestoreFails e (g.S.SlotCalls.state c.args.stock.now) (g.S.SlotCalls.state c.restore.new.self)) c.in-Err-Corrupt.field-0-is c.in-Err-Corrupt.ensures.fails)
+
+pub returns-in-Ok-clause-firmly : goal.returns-in-Ok-clause-firmly
+returns-in-Ok-clause-firmly g c firmly quick h = c.mount_slots.ensures.disk firmly (restored-chip (g.S.SlotCalls.state c.args.stock.now) (g.S.SlotCalls.state c.restore.new.self) quick h c.in-Ok.ensures.ok)

@@ -2,7 +2,7 @@ use Rattle.std.proofs.Common.{◌≡◌, List, ℕ, ap, inr, sym, subst, ◌∙�
 use Rattle.chip_model.specs.Memory.{byte}
 use Rattle.std.proofs.lemmas.Result.{err_from_is_err_and}
 use Rattle.erase_journal.specs.Journals.{IsHealthy, IsSettled}
-use Rattle.sector_slots.specs.Slots.{slot_at, slot_count}
+use Rattle.sector_slots.specs.Slots.{data_blocks, slot_at, slot_count}
 use Rattle.sector_map.specs.Found.{FoundIn, RoomSeen}
 use Rattle.sector_map.specs.Table.{IsTabled, Mounts, MountCut}
 use Rattle.sector_slots.specs.Sectors.{IsSoundMap}
@@ -22,6 +22,7 @@ use Rattle.erase_journal.proofs.Firmly.{refuses-plainly}
 use Rattle.sector_map.specs.Firm.{ReadsAlike}
 use Rattle.sector_slots.specs.Weak.{IsDoubtedStore}
 use Rattle.sector_map.proofs.MountFirmly.{half-read}
+use Rattle.sector_map.proofs.FirmFilling.{filled-disk, of-two}
 use Rattle.sector_map.proofs.mount.mount_slots.Goals as goal
 
 pub returns-in_err-marks-clause-cut : goal.returns-in_err-marks-clause-cut
@@ -193,3 +194,14 @@ returns-in_ok-repair-in-Some-clause-store g c firmly unmarked h is =
     let alike = subst (λ (z : List ℕ). ReadsAlike z s4.memory) same (marked-firm s2.memory s3.memory s4.memory c.in_ok-mark_first-in-Some.ensures.ok.blocks c.in_ok-begun-in-Some.ensures.ok) in
     let read = half-read s0 s4 c.in_ok-begun-in-Some.begun all.kept.bits alike (c.in_ok-begun-in-Some.ensures.heads firmly) h in
     subst (λ (s : NorState). IsDoubtedStore (bits_in s)) (sym c.suspect_as.ensures.state) (c.in_ok-repair-in-Some.ensures.store read)
+
+pub returns-in_ok-repair-in-Some-clause-disk : goal.returns-in_ok-repair-in-Some-clause-disk
+returns-in_ok-repair-in-Some-clause-disk g c firmly fit is =
+    let a = g.S.SlotCalls.state c.args.stock.now in
+    let b = g.S.SlotCalls.state c.suspect_as.new.stock in
+    let unmarked = of-two a.memory fit.layout in
+    filled-disk a b c.repair.new.table (g.S.Reclaim.counts c.suspect_as.new.stock) fit
+    (returns-in_ok-repair-in-Some-clause-sound g c is) (returns-in_ok-repair-in-Some-clause-ends g c)
+    (returns-in_ok-repair-in-Some-clause-journals g c firmly unmarked fit.journals is) (returns-in_ok-repair-in-Some-clause-store g c firmly unmarked fit.store is)
+    (c.suspect_as.ensures.suspect firmly)
+    (c.suspect_as.ensures.listed ∙ (c.in_ok-repair-in-Some.ensures.listed ∙ ap (λ (s : NorState). data_blocks s.memory) (sym c.suspect_as.ensures.state)))

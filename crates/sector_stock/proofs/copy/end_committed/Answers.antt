@@ -85,7 +85,7 @@ returns-in_err-erase-clause-cut_bits g c is suspects disk h sources =
     let m = (g.S.SlotCalls.state c.args.slots.now).memory in
     loses-in (bits_in (g.S.SlotCalls.state c.args.slots.now)) suspects (bits_in (g.S.SlotCalls.state c.erase.new.self)) disk
     (erased c.args.source c.requires.source (source-erasable c.args.source c.args.target m m (committed-found c.args.source c.args.target m h)) sources c.in_err-erase.ensures.size c.in_err-erase.ensures.beside
-    (c.in_err-erase.ensures.cut_bits (cc (p.1, p.2)) disk.settled disk.journals))
+    (c.in_err-erase.ensures.cut_bits (cc (p.1, p.2)) disk.settled disk.journals) (c.in_err-erase.ensures.opens (cc (p.1, p.2)) disk.settled disk.journals))
 
 pub returns-in_err-settle-clause-cut_bits : goal.returns-in_err-settle-clause-cut_bits
 returns-in_err-settle-clause-cut_bits g c is suspects disk h sources =

@@ -78,7 +78,7 @@ returns-in_err-erase-clause-cut_bits g c is suspects disk h part =
     let p = err_from_is_err_and c.from_residual.result c.from_residual.ensures.1 in
     loses-in (bits_in (g.S.SlotCalls.state c.args.slots.now)) suspects (bits_in (g.S.SlotCalls.state c.erase.new.self)) disk
     (erased c.args.target h.target (spare-erasable c.args.target (g.S.SlotCalls.state c.args.slots.now).memory h.rest h.target h.spare) (rest-sources (g.S.SlotCalls.state c.args.slots.now).memory h.rest) c.in_err-erase.ensures.size c.in_err-erase.ensures.beside
-    (c.in_err-erase.ensures.cut_bits (cc (p.1, p.2)) disk.settled disk.journals))
+    (c.in_err-erase.ensures.cut_bits (cc (p.1, p.2)) disk.settled disk.journals) (c.in_err-erase.ensures.opens (cc (p.1, p.2)) disk.settled disk.journals))
 
 pub returns-in_err-reclaim_into-clause-cut_bits : goal.returns-in_err-reclaim_into-clause-cut_bits
 returns-in_err-reclaim_into-clause-cut_bits g c is suspects disk h part =

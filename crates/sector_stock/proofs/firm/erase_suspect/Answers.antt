@@ -93,4 +93,4 @@ returns-in_err-erase-clause-cut_bits g c is h =
     let low = c.requires.number in
     let here : c.args.block < data_blocks s0.memory = omega (arith, low, n) in
     let cut = c.in_err-erase.ensures in
-    erase-loses c.args.block s0 s1 c.args.blocks.now h c.requires.room.blocks.rest here (whole-spare s0.memory c.args.states.now c.args.blocks.now c.args.block c.requires.room.blocks.rest index.listed here c.requires.whole) cut.size cut.beside (cut.cut_bits (cc (p.1, p.2)))
+    erase-loses c.args.block s0 s1 c.args.blocks.now h c.requires.room.blocks.rest here (whole-spare s0.memory c.args.states.now c.args.blocks.now c.args.block c.requires.room.blocks.rest index.listed here c.requires.whole) cut.size cut.beside (cut.cut_bits (cc (p.1, p.2))) (cut.opens (cc (p.1, p.2)))

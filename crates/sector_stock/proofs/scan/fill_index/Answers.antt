@@ -17,6 +17,7 @@ loop-block-preserved g c =
     let below = c.loop-block-test.true in
     record {
       same = c.in_ok-kind-2.ensures.same ∙ same;
+      weak = c.in_ok-kind-2.ensures.weak ∙ c.loop-block.invariant.weak;
       since = settled-after (g.S.SlotCalls.state c.args.slots.now) (g.S.SlotCalls.state c.loop-block.slots) (g.S.SlotCalls.state c.head.new.self) c.loop-block.invariant.since c.in_ok-kind-2.ensures.ends;
       states_size = c.note_block.ensures.states.size ∙ c.loop-block.invariant.states_size;
       blocks_size = c.note_block.ensures.block_size ∙ c.loop-block.invariant.blocks_size;

@@ -2,6 +2,7 @@ use Rattle.std.proofs.Common.{inl, ◌∙◌, ap, sym, Err}
 use Rattle.std.proofs.lemmas.List.{with_items_is}
 use Rattle.chip_model.specs.Geometry.{sector_count}
 use Rattle.sector_slots.specs.Sectors.{zeros}
+use Rattle.sector_map.proofs.FirmMaps.{since-stays, since-fails, firm-stays, firm-fails, firm-latched, firm-cut, left-chip, stands-left}
 use Rattle.sector_map.proofs.MapCalls.{keeps-none}
 use Rattle.sector_map.proofs.Restoring.{cut-store, leaves-store, known-after, known-latched, latched-refuses, shown-refuses}
 use Rattle.sector_map.proofs.Opening.{shown-succeeds}
@@ -25,6 +26,8 @@ pub invariant_of-self : goal.invariant_of-self
 invariant_of-self g c = record {
   counted = c.self.invariant.counted ∙ ap (λ n. sector_count n) (sym c.clear_as.ensures.size);
   standing = known-after c.self.inside.latched c.self.inside.table.items c.clear_as.new.table c.self.inside.stock.slots c.clear_as.new.stock.slots c.self.inside.stock.indexed c.clear_as.new.stock.indexed _ (with_items_is c.self.inside.table c.clear_as.new.table (c.clear_as.ensures.table ∙ c.as_mut_slice.ensures.len)) c.in_default.is c.in-Ok.ensures.ok.served;
+  since = since-stays _ _ _ c.self.inside.stock.slots c.clear_as.new.stock.slots c.in-Ok.ensures.ends.kept c.self.invariant.since;
+  firm = firm-stays _ _ _ c.self.inside.latched c.self.inside.firmness c.self.inside.stock.slots c.clear_as.new.stock.slots c.self.inside.stock.blocks.items c.clear_as.new.stock.blocks.items c.in-Ok.ensures.ends.kept c.in-Ok.ensures.ok.sets.chip c.in-Ok.ensures.firmly c.self.invariant.firm;
 }
 
 pub invariant_of-self-in-Err : goal.invariant_of-self-in-Err
@@ -32,6 +35,8 @@ invariant_of-self-in-Err g c = record {
   counted = c.self.invariant.counted ∙ ap (λ n. sector_count n) (sym c.clear_as.ensures.size);
   standing = known-latched c.self.inside.latched c.in-Err.error c.self.inside.table.items _ c.self.inside.stock.slots c.clear_as.new.stock.slots c.self.inside.stock.indexed c.clear_as.new.stock.indexed c.in_default.is c.self.invariant.standing c.in-Err.ensures.ends
       (λ e. leaves-store c.args.sector zeros c.self.inside.stock.slots.memory c.clear_as.new.stock.slots.memory (c.clear_as.ensures.cut (c.in-Err.is ∙ ap Err e)));
+  since = since-fails _ _ _ c.in-Err.error c.self.inside.stock.slots c.clear_as.new.stock.slots c.in-Err.ensures.ends c.self.invariant.since;
+  firm = firm-fails _ _ _ c.self.inside.latched c.in-Err.error c.self.inside.table.items c.self.inside.stock.slots c.clear_as.new.stock.slots c.self.inside.stock.indexed c.in_default.is c.self.invariant.standing c.in-Err.ensures.ends c.self.invariant.since;
 }
 
 pub returns-in-Some-clause-ends : goal.returns-in-Some-clause-ends
@@ -39,3 +44,9 @@ returns-in-Some-clause-ends g c = rw (← c.self.view_is) (latched-refuses c.sel
 
 pub returns-in-Err-clause-ends : goal.returns-in-Err-clause-ends
 returns-in-Err-clause-ends g c = rw (← c.self.view_is) (shown-refuses c.self.inside.latched c.in-Err.error c.self.inside.table.items c.self.inside.stock.slots c.clear_as.new.stock.slots c.self.inside.stock.indexed c.in_default.is c.self.invariant.standing c.in-Err.ensures.ends)
+
+pub returns-in-Some-clause-firmly : goal.returns-in-Some-clause-firmly
+returns-in-Some-clause-firmly g c = rw (← c.self.view_is) (firm-latched _ _ _ c.self.inside.latched c.in-Some.error c.self.inside.firmness c.self.inside.stock.slots c.self.inside.stock.blocks.items c.in-Some.is c.self.invariant.firm)
+
+pub returns-in-Err-clause-firmly : goal.returns-in-Err-clause-firmly
+returns-in-Err-clause-firmly g c = rw (← c.self.view_is) (firm-cut _ _ _ c.self.inside.latched c.self.inside.firmness c.self.inside.stock.slots c.self.inside.stock.blocks.items (λ is two disk cut. (c.in-Err.ensures.firmly is disk (cc cut), stands-left c.self.inside.stock.slots c.clear_as.new.stock.slots two (left-chip c.self.inside.stock.slots.memory c.clear_as.new.stock.slots.memory c.args.sector zeros (c.clear_as.ensures.cut (cc (c.in-Err.is, cut)))) (c.in-Err.ensures.ends.journals (cc cut) disk.settled disk.journals))) c.self.invariant.firm)

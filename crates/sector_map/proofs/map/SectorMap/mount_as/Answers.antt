@@ -2,6 +2,7 @@ use Rattle.std.proofs.Common.{◌≡◌, List, ℕ, false, rules, sym, subst}
 use Rattle.nor_driver.specs.State.{bits_in, NorFails}
 use Rattle.erase_journal.proofs.Interrupted.{interrupted-same}
 use Rattle.sector_map.specs.Marking.{is_unmarked}
+use Rattle.sector_map.proofs.FirmBegins.{look-begins}
 use Rattle.sector_map.proofs.MountFirmly.{half-chip-same}
 use Rattle.sector_map.proofs.Opening.{looked-fails, look-was-cut, looked-mounted}
 use Rattle.sector_map.proofs.map.SectorMap.mount_as.Goals as goal
@@ -35,3 +36,6 @@ returns-in-Ok-Ok-clause-store g c firmly unmarked h =
     let s0 = g.N.Nor.state c.args.nor in
     let s1 = g.N.Nor.state c.look.new.nor in
     c.recover.ensures.store firmly (subst (λ (m : List ℕ). is_unmarked m ≡ false) (sym c.in-Ok-Ok.ensures.same) unmarked) (half-chip-same s0 s1 c.in-Ok-Ok.ensures.kept.bits c.in-Ok-Ok.ensures.same h)
+
+pub recover-requires-clause-firmly : goal.recover-requires-clause-firmly
+recover-requires-clause-firmly g c is = look-begins _ _ c.args.firmness (g.N.Nor.state c.args.nor) (g.N.Nor.state c.look.new.nor) c.in-Ok-Ok.ensures.same c.in-Ok-Ok.ensures.kept (c.requires.firmly is)
