@@ -15,7 +15,7 @@ use Rattle.erase_journal.proofs.Draws.{firm-byte}
 use Rattle.sector_slots.specs.Slots.{Free, blank_sector, content_bytes, copies, data_block, data_blocks, is_copy_of, is_void, kind_at, raw_slot, IsClean, IsSpareIn}
 use Rattle.sector_slots.specs.Sectors.{zeros}
 use Rattle.sector_slots.specs.Blocks.{AreAtRest, IsTarget}
-use Rattle.sector_slots.specs.Losses.{AreOpenedErasable, IsFirmDisk}
+use Rattle.sector_slots.specs.Losses.{IsFirmDisk}
 use Rattle.sector_slots.specs.Weak.{IsSureBlock, IsSureSlot, block_place, dead, fading, firm, sector_place}
 use Rattle.sector_slots.proofs.BlankLaws.{blank-content}
 use Rattle.sector_slots.proofs.ChipRooms.{either-opened, firm-kind, same-blocks, still-left, still-read}
@@ -26,6 +26,7 @@ use Rattle.sector_slots.proofs.HalfBlocks.{IsAnyPlace, IsBesideSlot, IsBlockRead
 use Rattle.sector_slots.proofs.HeadLaws.{committed-plain, void-plain}
 use Rattle.sector_slots.proofs.LeftLaws.{AreBesideEdges, IsLeft, left-byte, left-torn, not-free-live, taken-mark, with_loss}
 use Rattle.sector_slots.proofs.SlotLaws.{counted-raw}
+use Rattle.sector_slots.proofs.UnopenedLaws.{AreOpenedErasable}
 use Rattle.journal_slots.proofs.Places as places
 use Rattle.firm_chip.specs.FirmChips.{AreFirmly, IsOfSlots, content_place, data_place}
 use Rattle.firm_chip.proofs.Heads.{spare-blank}

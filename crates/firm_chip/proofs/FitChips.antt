@@ -1,5 +1,5 @@
 -- A chip as a loss of power in a change leaves it is fit for the next firm mount, however the weak bits read.
-use Rattle.std.proofs.Common.{◌≡◌, ◌≢◌, ℕ, ◌+◌, ◌-◌, ◌*◌, ◌<◌, ◌≤◌, ◌⊎◌, Bool, true, false, List, [], ◌∷◌, length, sym, ap, ◌∙◌, subst, arith, inl, inr, lit<}
+use Rattle.std.proofs.Common.{◌≡◌, ◌≢◌, ℕ, ◌+◌, ◌-◌, ◌*◌, ◌<◌, ◌≤◌, ◌⊎◌, Bool, false, List, [], ◌∷◌, length, sym, ap, ◌∙◌, subst, arith, inl, inr, lit<}
 use Rattle.std.specs.Int.{bit_at}
 use Rattle.std.proofs.lemmas.Bool.{cases_eq, true≢false}
 use Rattle.chip_model.specs.Geometry.{block_count}
@@ -9,14 +9,13 @@ use Rattle.nor_layout.specs.Superblock.{layout_in}
 use Rattle.nor_layout.specs.declared.header.Tag.{Tag}
 use Rattle.nor_layout.specs.declared.kind.Kind.{Kind}
 use Rattle.nor_layout.specs.declared.kind.Kind.TheVariants as kinds
-use Rattle.erase_journal.specs.Blocks.{is_opened}
 use Rattle.erase_journal.specs.Torn.{BlockInterrupted, ProgramInterrupted, SameBlock, as_it_was, is_erased, opened}
 use Rattle.erase_journal.specs.Weak.{AreInterruptedAtEachDraw}
 use Rattle.erase_journal.proofs.Draws.{firm-byte}
 use Rattle.sector_slots.specs.Half.{HasMark}
 use Rattle.sector_slots.specs.Slots.{Free, Live, blank_sector, content_bytes, data_block, data_blocks, is_group, kind_at, raw_slot, IsClean, IsSpareIn}
 use Rattle.sector_slots.specs.Blocks.{AreAtRest, IsTarget}
-use Rattle.sector_slots.specs.Losses.{AreOpenedErasable, StepInterrupted, IsErase, IsFirmDisk, IsHalfChipAtEachDraw, WriteInterrupted, begun, committed, copied, erased, killed, none, retired, settled}
+use Rattle.sector_slots.specs.Losses.{StepInterrupted, IsFirmDisk, IsHalfChipAtEachDraw, WriteInterrupted, begun, committed, copied, erased, killed, none, retired, settled}
 use Rattle.sector_slots.specs.Steps.{IsBegun}
 use Rattle.sector_slots.specs.Torn.{BeginInterrupted, IsBegunHead, PutInterrupted, SameButPlace, StateInterrupted, in_commit, in_first_page, in_header, in_second_page, with_descriptor, with_pages}
 use Rattle.sector_slots.specs.Weak.{IsSureBlock, block_place, descriptor_place, mark_place}
@@ -32,9 +31,8 @@ use Rattle.sector_slots.proofs.SectorBits.{SameButSector, first-aside, pages-asi
 use Rattle.sector_slots.proofs.TornBits.{commit-step, others-left, program-length, retire-step, state-kept, zero-stays}
 use Rattle.sector_slots.proofs.TornBlocks.{BesidePlace, IsSureLive, place-edges, place-mark, place-slot, put-apart, sure-free, sure-live, trusted-slot}
 use Rattle.sector_slots.proofs.TornLaws.{erased-is}
-use Rattle.sector_slots.proofs.UnopenedLaws.{program-unopened}
-use Rattle.nor_driver.specs.State.{as_before as not_begun}
-use Rattle.flash_disk.specs.Fit.{AreByteBits, IsFitForFirmMount}
+use Rattle.sector_slots.proofs.SectorsKept.{change-erasable}
+use Rattle.sector_slots.specs.Fit.{IsFitForFirmMount}
 use Rattle.firm_chip.specs.Fit.{LossesLeaveFitChips}
 use Rattle.firm_chip.proofs.CleanBlocks.{IsCleanBlock, HaveCounted, copies-stay, each-clean, erased-clean, erased-stays, kept-clean, one-clean, rest-counted, same-clean, slot-stays, source-counted, spare-clean, unless-opened, untouched-clean, void-block-clean, void-counted}
 
@@ -210,35 +208,33 @@ module _ (a new : Bits) (suspect : ℕ → Bool) (disk : IsFirmDisk a suspect) (
       erased-clean v c (erased-is new c (subst (λ q. c < q) (sym same) low) bytes firm v d shut))
 
 -- The chip is clean after each interrupted change.
-change-clean : (a : Bits) (suspect : ℕ → Bool) (new : Bits) → IsFirmDisk a suspect → (change : StepInterrupted a suspect new) → (v : List ℕ) → Drawn new.weak new.shown v → (IsErase a suspect new change → AreOpenedErasable a.shown v) → IsClean v
-change-clean a suspect new disk (none sources same) v d may =
-    let size = ap (λ (x : Bits). length x.shown) same in
-    let left : (e : ℕ) → SameBlock (e + 4) a new = λ e k small. (ap (λ (x : Bits). byte x.shown (block_place e + k)) same, ap (λ (x : Bits). byte x.weak (block_place e + k)) same) in
-    let erasable = λ (e : ℕ) (low : e < data_blocks a.shown) (is : is_opened v (e + 4) ≡ true). absurd (true≢false (sym is ∙ program-unopened a new 16384 [] (omega arith) disk.settled disk.journals (not_begun same) v d (e + 4))) in
-    let counted = copies-stay a new suspect disk size v d erasable (λ t b inside is. left t) in
+change-clean : (a : Bits) (suspect : ℕ → Bool) (new : Bits) → IsFirmDisk a suspect → StepInterrupted a suspect new → (v : List ℕ) → Drawn new.weak new.shown v → IsClean v
+change-clean a suspect new disk (none sources size same shut) v d =
+    let left : (e : ℕ) → SameBlock (e + 4) a new = λ e k small. same (block_place e + k) (omega arith) in
+    let counted = copies-stay a new suspect disk size v d (change-erasable a suspect new disk (none sources size same shut) v d) (λ t b inside is. left t) in
     each-clean a new suspect disk size v d (λ e low. untouched-clean a new suspect disk size v d e low (left e) (counted e low))
-change-clean a suspect new disk (retired c p tag x low within rest live why l) v d may =
+change-clean a suspect new disk (retired c p tag x low within rest live why l) v d =
     let size = program-length a new (descriptor_place c p) (248 ∷ []) l in
     one-clean a new suspect disk size v d c (λ e other. program-apart a new c (16 + 4 * p) e (248 ∷ []) (omega (arith, within)) other l) (rest-counted a.shown v rest) (retire-clean a new suspect disk size v d c p tag x low within rest live l)
-change-clean a suspect new disk (killed c p rest free part l) v d may =
+change-clean a suspect new disk (killed c p rest free part l) v d =
     let size = program-length a new (descriptor_place c p) (251 ∷ []) l in
     let within = free.within in
     one-clean a new suspect disk size v d c (λ e other. program-apart a new c (16 + 4 * p) e (251 ∷ []) (omega (arith, within)) other l) (rest-counted a.shown v rest)
     (descriptor-clean a new suspect disk size v d c p (251 ∷ []) free.number within rest free.free (λ sure. taken-mark a (suspect c) c part sure) (omega arith) l)
-change-clean a suspect new disk (begun t low rest is trusted call) v d may =
+change-clean a suspect new disk (begun t low rest is trusted call) v d =
     let size = program-length a new (mark_place t) call.mark call.program in
     let four = call.begun.size in
     one-clean a new suspect disk size v d t (λ e other. program-apart a new t 4 e call.mark (omega (arith, four)) other call.program) (rest-counted a.shown v rest) (begin-clean a new suspect disk size v d t low is trusted call)
-change-clean a suspect new disk (copied t p within target is size same) v d may =
+change-clean a suspect new disk (copied t p within target is size same) v d =
     one-clean a new suspect disk size v d t (place-same a new t p within same) (void-counted a.shown v t target is) (copy-clean a new suspect disk size v d t p target.number within is same)
-change-clean a suspect new disk (committed s t low other target start copies blank sure single l) v d may =
+change-clean a suspect new disk (committed s t low other target start copies blank sure single l) v d =
     let size = program-length a new (mark_place t) (252 ∷ []) l in
     one-clean a new suspect disk size v d t (λ e away. program-apart a new t 4 e (252 ∷ []) (omega arith) away l) (void-counted a.shown v t target start.void) (commit-clean a new suspect disk size v d s t target.number start (λ i li free. (blank i li free).blank) l)
-change-clean a suspect new disk (settled s t low target is free sure l) v d may =
+change-clean a suspect new disk (settled s t low target is free sure l) v d =
     let size = program-length a new (mark_place t) (248 ∷ []) l in
     one-clean a new suspect disk size v d t (λ e away. program-apart a new t 4 e (248 ∷ []) (omega arith) away l) (source-counted a.shown v s t target is free) (settle-clean a new suspect disk size v d s t target is free l)
-change-clean a suspect new disk (erased c low er sources size beside cut) v d may =
-    let counted = copies-stay a new suspect disk size v d (may tt) (λ t b inside is. beside-same a new c t beside (λ q. er.copy b (ap (λ e. kind_at a.shown e) (sym q) ∙ is))) in
+change-clean a suspect new disk (erased c low er sources size beside cut only) v d =
+    let counted = copies-stay a new suspect disk size v d (change-erasable a suspect new disk (erased c low er sources size beside cut only) v d) (λ t b inside is. beside-same a new c t beside (λ q. er.copy b (ap (λ e. kind_at a.shown e) (sym q) ∙ is))) in
     one-clean a new suspect disk size v d c (λ e other. beside-same a new c e beside other) counted (erase-clean a new suspect disk size v d c low counted cut)
 
 -- And after an interrupted write.
@@ -252,12 +248,11 @@ write-clean a suspect tag content new disk w v d =
     (put-clean a new suspect disk size v d c p w.free.number within w.rest w.trusted w.free.free tag content w.size w.put)
 
 -- What is left is fit, where it is clean, and of its data blocks one change was interrupted.
-fit : (b : Bits) (v : List ℕ) → layout_in b.shown ≡ 2 → AreByteBits b → AreInterruptedAtEachDraw b → Drawn b.weak b.shown v → IsHalfChipAtEachDraw b → IsClean v → IsFitForFirmMount (record { shown = v; weak = b.weak })
-fit b v layout bits journals d half clean =
+fit : (b : Bits) (v : List ℕ) → layout_in b.shown ≡ 2 → AreInterruptedAtEachDraw b → Drawn b.weak b.shown v → IsHalfChipAtEachDraw b → IsClean v → IsFitForFirmMount (record { shown = v; weak = b.weak })
+fit b v layout journals d half clean =
     let j = (journals v d).1 in
     record {
       layout = firm-byte b.shown b.weak v 8 d (j.superblock 8 (lit< tt)) ∙ layout;
-      weak = λ i k low high. bits i k (subst (λ n. i < n) d.same_length low) high;
       journals = j;
       store = half v d;
       clean = clean;
@@ -265,6 +260,6 @@ fit b v layout bits journals d half clean =
 
 pub losses-fit : LossesLeaveFitChips
 losses-fit = record {
-  change = λ a suspect b v disk change layout bits journals may d. fit b v layout bits journals d (change-half a suspect b disk change) (change-clean a suspect b disk change v d may);
-  write = λ a suspect tag content b v disk w layout bits journals d. fit b v layout bits journals d (write-half a suspect tag content b disk w) (write-clean a suspect tag content b disk w v d);
+  change = λ a suspect b v disk change layout journals d. fit b v layout journals d (change-half a suspect b disk change) (change-clean a suspect b disk change v d);
+  write = λ a suspect tag content b v disk w layout journals d. fit b v layout journals d (write-half a suspect tag content b disk w) (write-clean a suspect tag content b disk w v d);
 }

@@ -12,8 +12,7 @@ use Rattle.erase_journal.proofs.Opened.{none-named}
 use Rattle.sector_slots.specs.Slots.{NoGeneration, data_blocks, data_block, raw_slot}
 use Rattle.sector_slots.specs.Sectors.{HasSlotsAlone, IsSoundMap}
 use Rattle.sector_slots.specs.Blocks.{AreSettled}
-use Rattle.sector_slots.specs.Weak.{block_place, IsDoubtedStore, HasSureRoom, HasSureSpare, IsHalfStore, IsHalfChip, HasChipRoom, found, opened}
-use Rattle.flash_disk.specs.Fit.{AreByteBits}
+use Rattle.sector_slots.specs.Weak.{IsDoubtedStore, HasSureRoom, HasSureSpare, IsHalfStore, IsHalfChip, HasChipRoom, found, opened}
 use Rattle.firm_chip.specs.Stores.{DoubtedStoresAreHalfAtEachDraw}
 use Rattle.sector_slots.proofs.HalfBlocks.{block-read, block-half, spare-room, unopened-own, whole-slots}
 
@@ -52,8 +51,8 @@ half-chip-store b settled h = record {
   room (found r) = r
   room (opened c low is) = absurd (settled-unopened b.shown (c + 4) settled is)
 
-doubted-chip : (b : Bits) (m' : List ℕ) → AreByteBits b → IsSettled b.shown → IsSoundMap b.shown → AreSettled b.shown → HasSlotsAlone b.shown → IsDoubtedStore b → Drawn b.weak b.shown m' → IsHalfChip (record { shown = m'; weak = b.weak })
-doubted-chip b m' bits settled sound blocks alone h d =
+doubted-chip : (b : Bits) (m' : List ℕ) → IsSettled b.shown → IsSoundMap b.shown → AreSettled b.shown → HasSlotsAlone b.shown → IsDoubtedStore b → Drawn b.weak b.shown m' → IsHalfChip (record { shown = m'; weak = b.weak })
+doubted-chip b m' settled sound blocks alone h d =
     let r = resting b.shown settled sound blocks in
     let same : data_blocks m' ≡ data_blocks b.shown = ap (λ n. n / 4096 - 4) d.same_length in
     let room : HasSureSpare b = h.room in
@@ -61,7 +60,7 @@ doubted-chip b m' bits settled sound blocks alone h d =
     record {
       each = λ c low shut.
           let q : c < data_blocks b.shown = subst (λ n. c < n) same low in
-          block-half b m' c (read c q shut) (λ i k within high. bits (block_place c + i) k (omega (arith, q, within)) high) (blocks.rest c q) (λ i li. r.whole c i q li) (h.each c q);
+          block-half b m' c (read c q shut) (h.bytes c q) (blocks.rest c q) (λ i li. r.whole c i q li) (h.each c q);
       room =
           let c = room.block in
           let q = room.number in
@@ -73,6 +72,6 @@ doubted-chip b m' bits settled sound blocks alone h d =
     }
 
 pub doubted-half : DoubtedStoresAreHalfAtEachDraw
-doubted-half b m' bits settled sound blocks alone h d =
-    let chip = doubted-chip b m' bits settled sound blocks alone h d in
+doubted-half b m' settled sound blocks alone h d =
+    let chip = doubted-chip b m' settled sound blocks alone h d in
     (chip, λ now. half-chip-store (record { shown = m'; weak = b.weak }) now chip)

@@ -9,7 +9,6 @@ use Rattle.sector_slots.specs.Slots.{IsClean}
 use Rattle.sector_slots.specs.Sectors.{HasSlotsAlone, IsSingle, IsSoundMap, sector_at}
 use Rattle.sector_slots.specs.Weak.{IsDoubtedStore, IsHalfChip, IsHalfStore}
 use Rattle.sector_map.specs.Maps.{IsMountable}
-use Rattle.flash_disk.specs.Fit.{AreByteBits}
 use Rattle.firm_chip.specs.Draws.{IsSameDisk}
 
 -- Of a chip whose journals and data blocks are as a firm mount leaves them, each draw of the weak
@@ -24,8 +23,8 @@ EachDrawOfADoubtedStoreIsTheSameDisk = (b : Bits) (m' : List ℕ) → AreFirmJou
 -- read at a later power-on, the data blocks that a firm mount left are ones of which one change was
 -- interrupted, as the next firm mount needs them; also where it reads as if an erase went on.
 abbrev pub DoubtedStoresAreHalfAtEachDraw : Type 0
-DoubtedStoresAreHalfAtEachDraw = (b : Bits) (m' : List ℕ) → AreByteBits b
-    → IsSettled b.shown → IsSoundMap b.shown → AreSettled b.shown → HasSlotsAlone b.shown
+DoubtedStoresAreHalfAtEachDraw = (b : Bits) (m' : List ℕ) → IsSettled b.shown
+    → IsSoundMap b.shown → AreSettled b.shown → HasSlotsAlone b.shown
     → IsDoubtedStore b → Drawn b.weak b.shown m'
     → IsHalfChip (record { shown = m'; weak = b.weak })
     × (IsSettled m' → IsHalfStore (record { shown = m'; weak = b.weak }))

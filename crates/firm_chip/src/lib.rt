@@ -7,8 +7,8 @@
 //!
 //! Promised: `is_firm` answers true only of a firm chip. What `mount_firmly` leaves reads as the
 //! same disk at each later power-on, until a call changes the chip. Where the power goes in a
-//! change of it, the chip is fit for the next firm mount: `losses_leave_fit_chips` says when. No
-//! crate of the product depends on this one.
+//! change of it, the chip is fit for the next firm mount: `losses_leave_fit_chips` says when. Of
+//! the product `flash_disk` depends on this one, in its proofs alone.
 //!
 //! Source: own, layout 2 (docs/LAYOUT.md, docs/CHIP.md).
 

@@ -5,14 +5,11 @@ use Rattle.nor_driver.specs.declared.error.NorError.{NorError}
 use Rattle.nor_driver.specs.declared.error.NorError.TheVariants as errors
 use Rattle.nor_driver.proofs.CallLaws.{refuses-slows}
 use Rattle.erase_journal.specs.Blocks.{SameChip}
-use Rattle.sector_map.specs.Maps.{IsLaidOut, SetLeaves, MapRestored, MapRestoreFails}
+use Rattle.sector_map.specs.Maps.{IsLaidOut, MapRestored, MapRestoreFails}
 use Rattle.sector_map.proofs.Marking.{chip-disk, disk-laid}
 
 pub superblock-kept : (m m' : List ℕ) → SameChip m m' → IsLaidOut m → IsLaidOut m'
 superblock-kept m m' k laid = disk-laid m m' (chip-disk m m' k) laid
-
-pub left-chip : (m m' : List ℕ) (g : ℕ) (x : List ℕ) → SetLeaves g x m m' → SameChip m m'
-left-chip m m' g x left = elim left as (λ _. SameChip m m') [ inl k ↦ k.chip | inr w ↦ w.chip ]
 
 -- while no more than n slow operations were counted, none is latched, and the superblock is there
 abbrev pub IsNamed : ℕ → NorState → Type 0

@@ -1,5 +1,5 @@
 -- Contents as sectors one after the other.
-use Rattle.std.proofs.Common.{replicate, ◌≡◌, ℕ, zero, suc, ◌+◌, ◌-◌, ◌*◌, ◌/◌, ◌%◌, ◌<◌, ◌≤◌, ◌⊎◌, List, ◌++◌, length, take, drop, refl, sym, ap, ◌∙◌, subst, arith, inl, inr, length-append}
+use Rattle.std.proofs.Common.{replicate, ◌≡◌, ◌≢◌, ℕ, zero, suc, ◌+◌, ◌-◌, ◌*◌, ◌/◌, ◌%◌, ◌<◌, ◌≤◌, ◌⊎◌, List, ◌++◌, length, take, drop, refl, sym, ap, ◌∙◌, subst, arith, inl, inr, length-append}
 use Rattle.std.proofs.Math.Seq.{get_or-append_right, take-add}
 use Rattle.std.proofs.Math.ListN.{get_or-append}
 use Rattle.std.specs.Prelude.{slice_range}
@@ -84,28 +84,29 @@ contents-kept m m' k = contents-same m m' k.disk.same_length k.sectors
 pub contents-keeps : (m m' : List ℕ) → KeepsMap m m' → IsClean m → contents_of m' ≡ contents_of m
 contents-keeps m m' k clean = contents-same m m' k.chip.same_length (k.sectors clean)
 
-placed-sector : (m m' : List ℕ) (g off : ℕ) (x y : List ℕ) → Sets g x m m' → IsClean m → g < sector_count (length m) → off + length y ≤ 512 → x ≡ placed taken_byte (sector_at m g) off y
-    → contents_of m' ≡ placed taken_byte (contents_of m) (512 * g + off) y
-placed-sector m m' g off x y w clean low fits e =
+-- one sector is another
+placed-sector : (m m' : List ℕ) (g off : ℕ) (x y : List ℕ) → length m' ≡ length m → sector_at m' g ≡ x → ((h : ℕ) → h < sector_count (length m) → h ≢ g → sector_at m' h ≡ sector_at m h) → g < sector_count (length m) → off + length y ≤ 512
+    → x ≡ placed taken_byte (sector_at m g) off y → contents_of m' ≡ placed taken_byte (contents_of m) (512 * g + off) y
+placed-sector m m' g off x y size there others low fits e =
     let d = contents_of m in
     let a = 512 * g + off in
     let len = length-contents m in
-    contents-by m m' (placed taken_byte d a y) w.chip.same_length (length-placed taken_byte d a y) (λ h in_range. elim (cases_eq h g) [
+    contents-by m m' (placed taken_byte d a y) size (length-placed taken_byte d a y) (λ h in_range. elim (cases_eq h g) [
       | inl same ↦
           subst (λ k. part 512 (placed taken_byte d a y) k ≡ sector_at m' k) (sym same)
-          (part-placed taken_byte 512 d g off y (omega (arith, len, low)) ∙ (ap (λ q. placed taken_byte q off y) (part-contents m g low) ∙ (sym e ∙ sym (w.there clean))))
+          (part-placed taken_byte 512 d g off y (omega (arith, len, low)) ∙ (ap (λ q. placed taken_byte q off y) (part-contents m g low) ∙ (sym e ∙ sym there)))
       | inr other ↦
           let out : (512 * h + 512 ≤ a) ⊎ (a + length y ≤ 512 * h) = elim (cases_lt h g) [ inl below ↦ inl (omega (arith, below)) | inr above ↦ inr (omega (arith, above, other, fits)) ] in
-          part-outside taken_byte 512 d a y h out ∙ (part-contents m h in_range ∙ sym (w.others clean h in_range other))
+          part-outside taken_byte 512 d a y h out ∙ (part-contents m h in_range ∙ sym (others h in_range other))
     ])
 
 -- a sector of which some bytes were replaced
-pub contents-written : (m m' : List ℕ) (g off : ℕ) (x y : List ℕ) → Sets g x m m' → IsClean m → g < sector_count (length m) → off + length y ≤ 512 → x ≡ replaced (sector_at m g) off y
-    → contents_of m' ≡ replaced (contents_of m) (512 * g + off) y
-contents-written m m' g off x y w clean low fits e =
+contents-written : (m m' : List ℕ) (g off : ℕ) (x y : List ℕ) → length m' ≡ length m → sector_at m' g ≡ x → ((h : ℕ) → h < sector_count (length m) → h ≢ g → sector_at m' h ≡ sector_at m h) → g < sector_count (length m) → off + length y ≤ 512
+    → x ≡ replaced (sector_at m g) off y → contents_of m' ≡ replaced (contents_of m) (512 * g + off) y
+contents-written m m' g off x y size there others low fits e =
     let len = length-contents m in
     let long = length-sector m g in
-    placed-sector m m' g off x y w clean low fits (e ∙ replaced-placed (sector_at m g) off y (omega (arith, long, fits)))
+    placed-sector m m' g off x y size there others low fits (e ∙ replaced-placed (sector_at m g) off y (omega (arith, long, fits)))
     ∙ sym (replaced-placed (contents_of m) (512 * g + off) y (omega (arith, len, low, fits)))
 
 -- a sector that is replaced whole
@@ -118,12 +119,17 @@ whole-sector x y off fits n long =
     let at : 0 + i ≡ i = omega arith in
     ap (λ k. byte (placed taken_byte x 0 y) k) (sym at) ∙ placed-inside taken_byte x 0 y i (omega (arith, h, size, long, n)) (omega (arith, h, size))))
 
--- what the writing of a sector leaves, whole and cut
-pub sector-written : (m m' : List ℕ) (g : ℕ) (x : List ℕ) → Sets g x m m' → IsClean m → g < sector_count (length m) → length x ≡ 512 → contents_of m' ≡ replaced (contents_of m) (512 * g) x
-sector-written m m' g x w clean low size =
+-- memories of one length with the same sectors but one
+pub sector-put : (m m' : List ℕ) (g : ℕ) (x : List ℕ) → length m' ≡ length m → g < sector_count (length m) → length x ≡ 512 → sector_at m' g ≡ x → ((h : ℕ) → h < sector_count (length m) → h ≢ g → sector_at m' h ≡ sector_at m h)
+    → contents_of m' ≡ replaced (contents_of m) (512 * g) x
+sector-put m m' g x same low size there others =
     let z : 512 * g + 0 ≡ 512 * g = omega arith in
     subst (λ a. contents_of m' ≡ replaced (contents_of m) a x) z
-    (contents-written m m' g 0 x x w clean low (omega (arith, size)) (whole-sector (sector_at m g) x 0 (omega (arith, size)) size (length-sector m g)))
+    (contents-written m m' g 0 x x same there others low (omega (arith, size)) (whole-sector (sector_at m g) x 0 (omega (arith, size)) size (length-sector m g)))
+
+-- what the writing of a sector leaves, whole and cut
+pub sector-written : (m m' : List ℕ) (g : ℕ) (x : List ℕ) → Sets g x m m' → IsClean m → g < sector_count (length m) → length x ≡ 512 → contents_of m' ≡ replaced (contents_of m) (512 * g) x
+sector-written m m' g x w clean low size = sector-put m m' g x w.chip.same_length low size (w.there clean) (w.others clean)
 
 pub sector-left : (m m' : List ℕ) (g : ℕ) (x : List ℕ) → SetLeaves g x m m' → IsClean m → g < sector_count (length m) → length x ≡ 512
     → (contents_of m' ≡ contents_of m) ⊎ (contents_of m' ≡ replaced (contents_of m) (512 * g) x)

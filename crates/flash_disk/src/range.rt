@@ -1,23 +1,27 @@
-//! Reading, writing and zeroing of whole sectors of a map, one after the other.
+//! Reading, writing and zeroing of whole sectors of a map, one after the other. Of a map that was
+//! mounted firmly from a memory that was fit for it, the first loss of power leaves each sector of
+//! a range old or new at each later power-on, however the torn bits read then (`firmly`).
 
 ghost use Rattle.std.specs.Prelude.{◌≡◌, ◌+◌, ◌*◌, ◌%◌, ◌≤◌, length, OnOk, IfErr, replicate};
 ghost use Rattle.std.specs.Result.{IsErrOf};
 ghost use Rattle.chip_model.specs.Geometry.{IsChipSize};
-ghost use Rattle.nor_driver.specs.State.{IsNorReady, OnlyMemoryChanges};
+ghost use Rattle.nor_driver.specs.State.{IsNorReady, OnlyMemoryChanges, bits_in};
 ghost use Rattle.erase_journal.specs.Blocks.{SameChip};
 ghost use Rattle.erase_journal.specs.Steps.{RefusesFirmly};
 ghost use Rattle.sector_slots.specs.Slots.{IsClean};
 ghost use Rattle.block_device.specs.Contents.{bytes_at, replaced, Outcome};
-ghost use Rattle.flash_disk.specs.Contents.{contents_of};
+ghost use Rattle.sector_map.specs.Losses.{WhileFirm};
+ghost use Rattle.sector_map.specs.Maps.{IsLaidOut};
+ghost use Rattle.flash_disk.specs.Contents.{AtEachDraw, contents_of};
 
 use block_device::SECTOR_LEN;
 use nor_driver::{Nor, NorError};
-use sector_map::SectorMap;
+use sector_map::{Provenance, SectorMap};
 
 /// Writes whole sectors from the sector `first` on, upwards.
 #[tactic(auto, using(crate::proofs::Calls::calls_since))]
-pub fn write_sectors<N: Nor>(
-    map: &mut SectorMap<N>,
+pub fn write_sectors<N: Nor, P: Provenance>(
+    map: &mut SectorMap<N, P>,
     first: u32,
     from: &[u8],
 ) -> Result<(), NorError>
@@ -38,6 +42,11 @@ pub fn write_sectors<N: Nor>(
     ensures size { length map.new.memory ≡ length map.old.memory }
     ensures chip { OnOk result (SameChip map.old.memory map.new.memory) }
     ensures cut_chip { IsErrOf result NorError.Cut → SameChip map.old.memory map.new.memory }
+    ensures firmly { WhileFirm P.firm P.cuts P.slows map.old
+        (IsErrOf result NorError.Cut → IsClean map.old.memory → IsLaidOut map.old.memory
+        → AtEachDraw (bits_in map.new)
+        (Outcome (contents_of map.old.memory)
+        (replaced (contents_of map.old.memory) (512 * first) from.now))) }
     ensures kept { OnOk result (OnlyMemoryChanges map.old map.new) }
     ensures fails { IfErr result (λ e. RefusesFirmly e map.old map.new) }
 {
@@ -52,7 +61,11 @@ pub fn write_sectors<N: Nor>(
 
 /// Writes zeros over whole sectors from the sector `first` on, upwards.
 #[tactic(auto, using(crate::proofs::Calls::calls_since))]
-pub fn zero_sectors<N: Nor>(map: &mut SectorMap<N>, first: u32, count: u32) -> Result<(), NorError>
+pub fn zero_sectors<N: Nor, P: Provenance>(
+    map: &mut SectorMap<N, P>,
+    first: u32,
+    count: u32,
+) -> Result<(), NorError>
     requires ready { IsNorReady map.old }
     requires range { 512 * first + 512 * count ≤ length (contents_of map.old.memory) }
     requires chip { IsChipSize (length map.old.memory) }
@@ -69,6 +82,11 @@ pub fn zero_sectors<N: Nor>(map: &mut SectorMap<N>, first: u32, count: u32) -> R
     ensures size { length map.new.memory ≡ length map.old.memory }
     ensures chip { OnOk result (SameChip map.old.memory map.new.memory) }
     ensures cut_chip { IsErrOf result NorError.Cut → SameChip map.old.memory map.new.memory }
+    ensures firmly { WhileFirm P.firm P.cuts P.slows map.old
+        (IsErrOf result NorError.Cut → IsClean map.old.memory → IsLaidOut map.old.memory
+        → AtEachDraw (bits_in map.new)
+        (Outcome (contents_of map.old.memory)
+        (replaced (contents_of map.old.memory) (512 * first) (replicate (512 * count) 0)))) }
     ensures kept { OnOk result (OnlyMemoryChanges map.old map.new) }
     ensures fails { IfErr result (λ e. RefusesFirmly e map.old map.new) }
 {
@@ -82,8 +100,8 @@ pub fn zero_sectors<N: Nor>(map: &mut SectorMap<N>, first: u32, count: u32) -> R
 
 /// Reads whole sectors from the sector `first` on.
 #[tactic(auto, using(crate::proofs::Calls::calls_since))]
-pub fn read_sectors<N: Nor>(
-    map: &mut SectorMap<N>,
+pub fn read_sectors<N: Nor, P: Provenance>(
+    map: &mut SectorMap<N, P>,
     first: u32,
     into: &mut [u8],
 ) -> Result<(), NorError>
@@ -94,6 +112,9 @@ pub fn read_sectors<N: Nor>(
     ensures ok { OnOk result (into.new
         ≡ bytes_at (contents_of map.old.memory) (512 * first) (length into.old)) }
     ensures same { map.new.memory ≡ map.old.memory }
+    ensures firmly { WhileFirm P.firm P.cuts P.slows map.old
+        (IsErrOf result NorError.Cut → IsClean map.old.memory → IsLaidOut map.old.memory
+        → AtEachDraw (bits_in map.new) (λ later. later ≡ contents_of map.old.memory)) }
     ensures kept { OnOk result (OnlyMemoryChanges map.old map.new) }
     ensures fails { IfErr result (λ e. RefusesFirmly e map.old map.new) }
 {

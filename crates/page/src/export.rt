@@ -145,6 +145,7 @@ fn play_mounted<P: Provenance>(
     frames: &mut [u8],
 ) -> Told
     requires sound { P.sound ≡ true }
+    requires plainly { P.firm ≡ false }
     requires counted { P.slows ≡ 0 }
     requires formatted { Formatted (chip_of bus.chip) }
     requires size { length (chip_of bus.chip).memory ≡ 65536 }

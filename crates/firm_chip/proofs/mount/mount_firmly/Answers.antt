@@ -1,5 +1,6 @@
 use Rattle.std.proofs.Common.{refl}
-use Rattle.firm_chip.proofs.Mounts.{of-two, read-again, fit-again, firm-disk}
+use Rattle.sector_map.proofs.FirmFilling.{of-two}
+use Rattle.firm_chip.proofs.Mounts.{read-again, fit-again, firm-disk}
 use Rattle.firm_chip.proofs.mount.mount_firmly.Goals as goal
 
 pub returns-in-Ok-clause-again : goal.returns-in-Ok-clause-again

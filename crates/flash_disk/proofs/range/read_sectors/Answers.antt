@@ -1,12 +1,15 @@
-use Rattle.std.proofs.Common.{◌≡◌, ◌∙◌, ◌+◌, ◌*◌, ◌/◌, ◌≤◌, ◌<◌, ◌-◌, refl, ap, arith, length, inr}
+use Rattle.std.proofs.Common.{◌≡◌, ◌∙◌, ◌+◌, ◌*◌, ◌/◌, ◌≤◌, ◌<◌, ◌-◌, refl, ap, subst, arith, length, inr}
 use Rattle.chip_model.specs.Geometry.{sector_count}
-use Rattle.nor_driver.specs.State.{Succeeds}
+use Rattle.nor_driver.specs.State.{Succeeds, bits_in}
 use Rattle.erase_journal.specs.Steps.{RefusesFirmly}
 use Rattle.sector_map.proofs.Retiring.{refuses-perhaps, succeeds-perhaps}
 use Rattle.nor_driver.proofs.CallLaws.{fails-as, fails-of, kept-after}
 use Rattle.sector_slots.proofs.SizeLaws.{length-sector}
 use Rattle.block_device.specs.Contents.{bytes_at}
 use Rattle.flash_disk.specs.Contents.{contents_of}
+use Rattle.std.proofs.lemmas.Result.{err_from_is_err_and}
+use Rattle.sector_map.specs.Losses.{KeepsAtLoss}
+use Rattle.flash_disk.proofs.Drawn.{draw-mounts, keeps-draw, keeps-fit, same-chip}
 use Rattle.flash_disk.proofs.Parts.{long-slice}
 use Rattle.flash_disk.proofs.Sectors.{length-contents, place-sector, sector-read, more-read, length-mid}
 use Rattle.flash_disk.proofs.range.read_sectors.Goals as goal
@@ -21,6 +24,20 @@ pub find-requires-clause-number : goal.find-requires-clause-number
 find-requires-clause-number g c =
     place-sector c.args.map.now.memory c.loop-done.map.memory c.args.first c.loop-done.done (length c.args.into.now) (ap length c.loop-done.invariant.same) c.requires.range
     (omega (arith, c.loop-done-test.true, c.loop-done.invariant.long))
+
+pub returns-in_err-find-clause-firmly : goal.returns-in_err-find-clause-firmly
+returns-in_err-find-clause-firmly g c firm cuts slows is clean laid later drawn =
+    let p = err_from_is_err_and c.from_residual.result c.from_residual.ensures.1 in
+    let m0 = c.args.map.now.memory in
+    let m = c.loop-done.map.memory in
+    let b = bits_in c.find.new.self in
+    let kept = c.loop-done.invariant.kept in
+    let was : m ≡ m0 = c.loop-done.invariant.same in
+    let same : b.shown ≡ m0 = c.find.ensures.same ∙ was in
+    let lost = c.in_err-find.ensures.firmly firm (kept.cuts ∙ cuts) (kept.slows ∙ slows) (cc (p.1, p.2)) in
+    let keeps : KeepsAtLoss m0 b = subst (λ z. KeepsAtLoss z b) was lost.0 in
+    let q = keeps-draw m0 b later (ap length same) clean keeps drawn in
+    (draw-mounts m0 b later (same-chip m0 b.shown same) laid lost.1.journals q.0 drawn, keeps-fit m0 b later keeps lost.1 drawn, q.1)
 
 pub loop-done-preserved : goal.loop-done-preserved
 loop-done-preserved g c =

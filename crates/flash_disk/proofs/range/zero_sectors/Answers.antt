@@ -3,7 +3,7 @@ use Rattle.std.specs.Prelude.{slice_range, take}
 use Rattle.std.proofs.lemmas.List.{length-replicate}
 use Rattle.std.proofs.lemmas.Result.{err_from_is_err_and}
 use Rattle.chip_model.specs.Geometry.{sector_count}
-use Rattle.nor_driver.specs.State.{Succeeds}
+use Rattle.nor_driver.specs.State.{Succeeds, bits_in}
 use Rattle.erase_journal.specs.Steps.{RefusesFirmly}
 use Rattle.sector_map.proofs.Retiring.{refuses-perhaps, succeeds-perhaps}
 use Rattle.nor_driver.proofs.CallLaws.{fails-as, fails-of, kept-after}
@@ -13,7 +13,8 @@ use Rattle.flash_disk.specs.Contents.{contents_of}
 use Rattle.block_device.specs.Contents.{replaced}
 use Rattle.flash_disk.proofs.Parts.{outcome-at, piece-written, long-slice}
 use Rattle.erase_journal.proofs.Renewal.{same-chip-on}
-use Rattle.flash_disk.proofs.Naming.{left-chip}
+use Rattle.flash_disk.proofs.Drawn.{draw-mounts, sets-draw, sets-fit}
+use Rattle.sector_map.proofs.FirmMaps.{left-chip}
 use Rattle.flash_disk.proofs.Sectors.{length-contents, counted-sector, sector-written, sector-left, left-clean, zeros-slice}
 use Rattle.flash_disk.proofs.range.zero_sectors.Goals as goal
 
@@ -65,6 +66,38 @@ returns-in_err-clear-clause-cut_chip g c is =
     let p = err_from_is_err_and c.from_residual.result c.from_residual.ensures.1 in
     same-chip-on c.args.map.now.memory c.loop-done.map.memory c.clear.new.self.memory c.loop-done.invariant.chip
     (left-chip c.loop-done.map.memory c.clear.new.self.memory (c.args.first + c.loop-done.done) zeros (c.in_err-clear.ensures.cut (cc (p.1, p.2))))
+
+pub returns-in_err-clear-clause-firmly : goal.returns-in_err-clear-clause-firmly
+returns-in_err-clear-clause-firmly g c firm cuts slows is clean laid later drawn =
+    let p = err_from_is_err_and c.from_residual.result c.from_residual.ensures.1 in
+    let m0 = c.args.map.now.memory in
+    let m = c.loop-done.map.memory in
+    let b = bits_in c.clear.new.self in
+    let kept = c.loop-done.invariant.kept in
+    let d = contents_of m0 in
+    let r = contents_of m in
+    let left = contents_of later in
+    let x : List ℕ = replicate (512 * c.args.count) 0 in
+    let long : length x ≡ 512 * c.args.count = length-replicate (512 * c.args.count) 0 in
+    let a = 512 * c.args.first in
+    let n = 512 * c.loop-done.done in
+    let s = c.args.first + c.loop-done.done in
+    let fits : n + 512 ≤ length x = omega (arith, long, c.loop-done-test.true) in
+    let inside : a + length x ≤ length d = omega (arith, long, c.requires.range) in
+    let first : (a + n) % 512 ≡ 0 = omega arith in
+    let second : (a + (n + 512)) % 512 ≡ 0 = omega arith in
+    let at : 512 * s ≡ a + n = omega arith in
+    let piece : zeros ≡ slice_range x n (n + 512) = sym (zeros-slice (512 * c.args.count) n (omega (arith, c.loop-done-test.true))) in
+    let low : s < sector_count (length m) = counted-sector m0 m c.args.first c.loop-done.done c.args.count c.loop-done.invariant.size c.requires.range (omega (arith, c.loop-done-test.true)) in
+    let chip = same-chip-on m0 m b.shown c.loop-done.invariant.chip (left-chip m b.shown s zeros (c.in_err-clear.ensures.cut (cc (p.1, p.2)))) in
+    let lost = c.in_err-clear.ensures.firmly firm (kept.cuts ∙ cuts) (kept.slows ∙ slows) (cc (p.1, p.2)) in
+    let q = sets-draw m b later s zeros c.clear.ensures.size (c.loop-done.invariant.clean clean) low length-zeros lost.0 drawn in (
+      draw-mounts m0 b later chip laid lost.1.journals q.0 drawn,
+      sets-fit m b later s zeros lost.0 lost.1 drawn,
+      outcome-at d r left a n 512 x inside (long-slice x n 512 fits) first second fits (c.loop-done.invariant.written clean)
+          (subst (λ y. (left ≡ r) ⊎ (left ≡ replaced r (a + n) y)) piece
+          (subst (λ z. (left ≡ r) ⊎ (left ≡ replaced r z zeros)) at q.1)),
+    )
 
 pub loop-done-preserved : goal.loop-done-preserved
 loop-done-preserved g c =

@@ -20,3 +20,6 @@ returns-in-Ok-clause-contents g c sound = contents-keeps c.args.self.now.map.mem
 pub returns-in-Err-Cut-clause-contents : goal.returns-in-Err-Cut-clause-contents
 returns-in-Err-Cut-clause-contents g c sound = contents-keeps c.args.self.now.map.memory c.renew_part.new.map.memory (c.renew_part.ensures.cut (c.in-Err-Cut.is ∙ ap Err c.in-Err-Cut.field-0-is))
     (c.args.self.now.clean sound (subst (λ e. RefusesFirmly e c.args.self.now.map c.renew_part.new.map) c.in-Err-Cut.field-0-is c.in-Err-Cut.ensures.ends).first.0)
+
+pub returns-in-Err-Cut-clause-firmly : goal.returns-in-Err-Cut-clause-firmly
+returns-in-Err-Cut-clause-firmly g c firm cuts slows cut ready sound = c.renew_part.ensures.firmly firm cuts slows (c.in-Err-Cut.is ∙ ap Err c.in-Err-Cut.field-0-is) (c.args.self.now.clean sound ready.1) (c.args.self.now.named slows).1
