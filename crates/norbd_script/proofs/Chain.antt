@@ -23,7 +23,7 @@ use Rattle.nor_driver.specs.State.{NorState}
 use Rattle.nor_driver.specs.Probe.{IsAcceptedChip, Readings, probe_answer, told}
 use Rattle.nor_driver.specs.declared.error.ProbeError.{ProbeError}
 use Rattle.nor_driver.specs.declared.error.ProbeError.TheVariants as probes
-use Rattle.flash_disk.specs.Contents.{contents_of, wanted_work}
+use Rattle.flash_disk.specs.Contents.{contents_of}
 use Rattle.flash_disk.specs.Formatted.{AnswersAsTold}
 use Rattle.flash_disk.specs.Mounting.{RefusedAt, RefusedAs}
 use Rattle.flash_disk.specs.declared.error.MountError.{MountError}
@@ -34,18 +34,6 @@ use Rattle.nbd_wire.specs.Commands.{default_export}
 use Rattle.norbd_script.specs.Answered.{Seen, AnswersEvents, BreaksEvents, AnswersLines, AnswersScript, FormatLeft, FormatsAsTold, IsOfFormatted, IsPastFormat, mounted}
 use Rattle.norbd_script.specs.Lives.{Answers, OnBus, Stay, as_seen}
 use Rattle.norbd_script.specs.Running.{IsLeftWell, IsPastMount, RunsOn, seen_of}
-
--- the facts of a disk, by its fields
-abbrev pub disk_facts : Bool → Bool → Bool → Bool → NorState → Bool → Facts
-disk_facts known checked doubtful lazy map cut = record {
-  sound = (known || checked) && not doubtful;
-  contents = contents_of map.memory;
-  cuts = map.cuts;
-  slows = map.slows;
-  cut = cut;
-  slow = map.is_slow;
-  work = wanted_work lazy map.memory;
-}
 
 -- a chip that was handed back by a disk with these facts, which was mounted at so many slow
 -- operations

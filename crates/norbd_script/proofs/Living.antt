@@ -1,13 +1,16 @@
 -- Any number of stays of a chip are its life.
 use Rattle.std.proofs.Common.{◌≡◌, true, false, ℕ, List, length, [], ◌∷◌, refl, sym, ◌∙◌, ap, subst}
 use Rattle.chip_model.specs.Chip.{Chip, Operation, Idle, Programming, Erasing, Setting, is_idle, is_setting}
-use Rattle.chip_model.specs.Cut.{TornMemory}
+use Rattle.chip_model.specs.Cut.{TornMemory, weakened}
 use Rattle.chip_model.specs.Geometry.{sector_count}
+use Rattle.chip_model.specs.Wavering.{bits_of}
 use Rattle.nor_driver.proofs.Stays.{accepted_cut, accepted_woken}
+use Rattle.sector_slots.specs.Fit.{IsFitForFirmMount}
 use Rattle.sector_slots.specs.Slots.{IsClean}
 use Rattle.sector_map.specs.Maps.{IsMountable}
 use Rattle.flash_disk.specs.Contents.{contents_of}
 use Rattle.norbd_script.specs.Lives.{CallsAreALife, IsHealthyChip, LeftAlone, keeps_power, loses_power, regains_power, Lives, StaySays, StaysHealthy, as_seen, seen_with}
+use Rattle.norbd_script.specs.OneLife.{FirmLivesAreALife}
 
 torn-none : (op : Operation) (m m' : List ℕ) → is_idle op ≡ true → TornMemory op m m' → m' ≡ m
 torn-none Idle m m' idle torn = torn
@@ -15,7 +18,13 @@ torn-none (Programming at bytes) m m' idle torn = cc
 torn-none (Erasing at size) m m' idle torn = cc
 torn-none (Setting value) m m' idle torn = cc
 
-not-setting : (op : Operation) → is_idle op ≡ true → is_setting op ≡ false
+weakened-none : (op : Operation) (m w : List ℕ) → is_idle op ≡ true → weakened op m w ≡ w
+weakened-none Idle m w idle = refl
+weakened-none (Programming at bytes) m w idle = cc
+weakened-none (Erasing at size) m w idle = cc
+weakened-none (Setting value) m w idle = cc
+
+pub not-setting : (op : Operation) → is_idle op ≡ true → is_setting op ≡ false
 not-setting Idle idle = refl
 not-setting (Programming at bytes) idle = refl
 not-setting (Erasing at size) idle = refl
@@ -74,4 +83,32 @@ calls-are-a-life c c' (run ∷ runs) all h =
         subst (λ n. Lives n (contents_of run.after.chip.memory) runs (contents_of c'.memory)) sectors rest.0,
       ),
       well-after c b.chip c' (left-well c b.chip left) (well-after b.chip run.after.chip c' well rest.1),
+    )
+
+-- the bits of a healthy chip to which no frame is sent
+weak-by : (c c' : Chip) → LeftAlone c c' → is_idle c.operation ≡ true → c'.weak ≡ c.weak
+weak-by c c' (keeps_power same) idle = ap (λ (z : Chip). z.weak) same
+weak-by c c' (loses_power cut) idle = cut.weak ∙ weakened-none c.operation c.memory c.weak idle
+weak-by c c' (regains_power woken) idle = ap (λ (z : Chip). z.weak) woken.on ∙ (woken.left.weak ∙ weakened-none c.operation c.memory c.weak idle)
+
+fit-by : (c c' : Chip) → c'.memory ≡ c.memory → c'.weak ≡ c.weak → IsFitForFirmMount (bits_of c) → IsFitForFirmMount (bits_of c')
+fit-by c c' memory weak fit =
+    subst (λ m. IsFitForFirmMount (record { shown = m; weak = c'.weak })) (sym memory) (subst (λ w. IsFitForFirmMount (record { shown = c.memory; weak = w })) (sym weak) fit)
+
+pub firm-lives : FirmLivesAreALife
+firm-lives c c' [] all h fit =
+    let left = left-by c c' all h in
+    (ap contents_of left.memory, left-well c c' left, fit-by c c' left.memory (weak-by c c' all h.idle) fit)
+firm-lives c c' (run ∷ runs) all h fit =
+    let b = run.before in
+    let left = left-by c b.chip all.0 h in
+    let well = all.1.runs.stays left.healthy all.2 in
+    let rest = firm-lives run.after.chip c' runs all.3 well.healthy all.1.fit in
+    let sectors : sector_count (length run.after.chip.memory) ≡ sector_count (length c.memory) = well.sectors ∙ ap (λ m. sector_count (length m)) left.memory in (
+      (
+        subst (λ m. StaySays (seen_with (sector_count (length m)) (contents_of m) b) run.stay (as_seen run.after)) left.memory (all.1.runs.says left.healthy),
+        subst (λ n. Lives n (contents_of run.after.chip.memory) runs (contents_of c'.memory)) sectors rest.0,
+      ),
+      well-after c b.chip c' (left-well c b.chip left) (well-after b.chip run.after.chip c' well rest.1),
+      rest.2,
     )

@@ -2,6 +2,8 @@
 -- them. Source: own.
 use Rattle.std.specs.Prelude.{◌≡◌, ℕ, ◌*◌, ◌≤◌, length, Result, Ok, Err}
 use Rattle.chip_model.specs.Geometry.{sector_count}
+use Rattle.chip_model.specs.Wavering.{bits_of}
+use Rattle.sector_slots.specs.Fit.{IsFitForFirmMount}
 use Rattle.sector_slots.specs.Slots.{IsClean}
 use Rattle.block_device.specs.Facts.{Facts}
 use Rattle.norbd_script.specs.declared.error.RunFault.{RunFault}
@@ -36,3 +38,8 @@ pub record RunsOn (f : Facts) (counted : ℕ) (stay : Stay) (new : OnBus) : Type
   pub size : (n : ℕ) → length f.contents ≡ 512 * n → sector_count (length new.chip.memory) ≡ n
   pub says : (n : ℕ) → length f.contents ≡ 512 * n → StaySays (seen_of n f) stay (as_seen new)
   pub left : f.slows ≡ counted → new.slows ≡ f.slows → IsLeftWell new
+
+-- The same of one life, of the chip as the next power-on finds it: the next life can begin with it.
+pub record RunsLife (f : Facts) (counted : ℕ) (stay : Stay) (new : OnBus) : Type 0 where
+  pub runs : RunsOn f counted stay new
+  pub fit : IsFitForFirmMount (bits_of new.chip)

@@ -2,6 +2,7 @@
 
 ghost use Rattle.norbd_script.specs.GroupChips.{GroupChipsAreServed};
 ghost use Rattle.norbd_script.specs.Lives.{CallsAreALife};
+ghost use Rattle.norbd_script.specs.OneLife.{FirmLivesAreALife};
 
 use block_device::sectors_decide_contents;
 
@@ -10,6 +11,12 @@ use block_device::sectors_decide_contents;
 /// calls the power may go, and another process may begin.
 pub fn mounts_make_a_life()
     ensures { CallsAreALife }
+{}
+
+/// Any number of lives of a chip whose torn bits waver, each a call of `run_firmly`, are one life
+/// of an array of sectors, where no operation was slow and no loss of power came in a mount.
+pub fn firm_lives_make_a_life()
+    ensures { FirmLivesAreALife }
 {}
 
 /// A healthy and clean chip of layout 1 holds one array, that of its groups' sectors, in the words

@@ -11,6 +11,11 @@
 //! healthy chip are one life, each beginning where the one before it ended, also if the power went
 //! in between (`specs/Lives.antt`, `mounts_make_a_life`).
 //!
+//! `run_firmly` runs a script in one life of a chip whose torn bits waver, from a firm mount to the
+//! first loss of power: what it wrote is a transcript to the array that the next power-on finds,
+//! however the weak bits read then, and the next life can begin (`specs/OneLife.antt`,
+//! `firm_lives_make_a_life`).
+//!
 //! Left to the crate above: the bus, and where the script comes from and the transcript goes.
 //!
 //! Source: own.
@@ -18,10 +23,12 @@
 
 mod error;
 mod laws;
+mod life;
 mod running;
 mod simulated;
 
 pub use error::RunFault;
-pub use laws::{group_chips_are_served, mounts_make_a_life};
-pub use running::{run_formatted, run_mounted};
+pub use laws::{firm_lives_make_a_life, group_chips_are_served, mounts_make_a_life};
+pub use life::Life;
+pub use running::{run_firmly, run_formatted, run_mounted};
 pub use simulated::run_simulated;

@@ -1,28 +1,34 @@
 //! Format, mount and a script in one call, and mount and a script in one, over any bus.
 
-ghost use Rattle.std.specs.Prelude.{◌≡◌, ◌*◌, ◌≤◌, ℕ, true, false, length};
+ghost use Rattle.std.specs.Prelude.{◌≡◌, ◌*◌, ◌<◌, ◌≤◌, ℕ, true, false, length};
 ghost use Rattle.block_device.specs.Facts.{IsDiskReady};
 ghost use Rattle.chip_model.specs.Chip.{is_idle};
 ghost use Rattle.chip_model.specs.Geometry.{sector_count};
 ghost use Rattle.flash_disk.specs.Contents.{contents_of};
 ghost use Rattle.flash_disk.specs.Formatted.{Formatted};
+ghost use Rattle.flash_disk.specs.Mounting.{BeginsOn};
+ghost use Rattle.erase_journal.specs.declared.firmness.Firmness.TheVariants.{Firm};
 ghost use Rattle.nor_driver.specs.Probe.{told};
 ghost use Rattle.sector_slots.specs.Slots.{IsClean};
 ghost use Rattle.norbd_script.specs.Answered.{AnswersScript, FormatLeft, FormatsAsTold};
 ghost use Rattle.norbd_script.specs.Answered.{IsPastFormat, script_part};
 ghost use Rattle.norbd_script.specs.Lives.{IsHealthyChip, RunsMounted};
-ghost use Rattle.norbd_script.specs.Running.{IsPastMount, RunsOn};
+ghost use Rattle.norbd_script.specs.OneLife.{EndsLife, found};
+ghost use Rattle.norbd_script.specs.Running.{IsPastMount, RunsLife, RunsOn};
 ghost use Rattle.nbd_station.specs.Script.{FailsToReadAll, FailsToWrite};
 
 use crate::error::RunFault;
+use crate::life::{Life, LifeDisk};
 use block_device::{Disk, DiskError, Sink, Source};
 use chip_model::SpiBus;
+use erase_journal::Firmness;
 use flash_disk::{FlashDisk, MountError, Provenance, format};
 use nbd_station::Station;
 use nor_driver::ProbeError;
 use sector_stock::Policy;
 use std::alloc::Global;
 use std::marker::Brand;
+use std::sync::ledger::Blank;
 
 /// Formats the chip behind a bus, mounts it, and runs a script on it, whose records come from
 /// `reader`, with the transcript to `writer`. The bus is handed back, with what became of the
@@ -131,6 +137,7 @@ fn run_checked<B: SpiBus, P: Provenance, S: Source, W: Sink>(
     writer: &mut W,
 ) -> (B, Result<(), RunFault>)
     requires sound { P.sound ≡ false }
+    requires plainly { P.firm ≡ false }
     requires counted { P.slows ≡ B.slows bus }
     ensures says { RunsMounted
         (record { chip = B.chip bus; cuts = B.cuts bus; slows = B.slows bus })
@@ -180,6 +187,7 @@ fn run_new<B: SpiBus, P: Provenance, S: Source, W: Sink>(
     writer: &mut W,
 ) -> (B, Result<(), RunFault>)
     requires sound { P.sound ≡ true }
+    requires plainly { P.firm ≡ false }
     requires counted { P.slows ≡ B.slows bus }
     requires formatted { Formatted (B.chip bus) }
     ensures says { AnswersScript
@@ -294,6 +302,121 @@ fn run_as_is<B: SpiBus, P: Provenance, S: Source, W: Sink>(
                 Err(error) => (
                     station.into_inner().into_inner(),
                     Err(RunFault::Script(error)),
+                ),
+            }
+        }
+        Err((disk, _)) => (disk.into_inner(), Err(RunFault::OutOfMemory)),
+    }
+}
+
+/// Mounts the chip behind a bus firmly, and runs a script on it, in one life of a chip whose torn
+/// bits waver: the first loss of power is the last that the script knows, and each `Restore` behind
+/// it is answered as lost.
+///
+/// The chip is fit for a firm mount, as a format and each such life leave it (`fit`). Once it is
+/// mounted, and where no operation is slow, the script is answered as `run_mounted` says it, from
+/// the sectors that the chip's memory represents to those that the next power-on finds, however the
+/// weak bits read then (`L.draw`): each sector of an interrupted command is old or new. A refused
+/// mount reads and writes nothing of the script.
+pub fn run_firmly<B: SpiBus, L: Life, S: Source, W: Sink>(
+    alloc: Global,
+    bus: B,
+    blank: Blank,
+    policy: Policy,
+    reader: &mut S,
+    writer: &mut W,
+) -> (B, Result<(), RunFault>)
+    requires name { blank.name ≡ L.name }
+    requires parts { blank.parts ≡ L.parts }
+    requires some { 0 < L.parts }
+    requires sound { L.sound ≡ true }
+    requires firm { L.firm ≡ true }
+    requires begins { BeginsOn L.cuts L.slows Firm (B.chip bus) (B.cuts bus) (B.slows bus) }
+    // a restore that followed the loss counts as one more
+    ensures says { IsPastMount result.1 → B.slows result.0 ≡ B.slows bus
+        → (losses : ℕ) × (B.cuts result.0 ≤ losses) × EndsLife
+        (record { chip = B.chip bus; cuts = B.cuts bus; slows = B.slows bus })
+        (record {
+          input = S.remaining reader.old;
+          was = W.written writer.old;
+          answer = result.1;
+          left = S.remaining reader.new;
+          is = W.written writer.new;
+        })
+        (record {
+          chip = found L.draw (B.chip result.0);
+          cuts = losses;
+          slows = B.slows result.0;
+        }) }
+    ensures refused { (IsPastMount result.1 → ⊥) → RunsMounted
+        (record { chip = B.chip bus; cuts = B.cuts bus; slows = B.slows bus })
+        (record {
+          input = S.remaining reader.old;
+          was = W.written writer.old;
+          answer = result.1;
+          left = S.remaining reader.new;
+          is = W.written writer.new;
+        })
+        (record {
+          chip = B.chip result.0;
+          cuts = B.cuts result.0;
+          slows = B.slows result.0;
+        }) }
+    ensures reads { FailsToReadAll (S.remaining reader.old) (S.faults reader.old)
+        (script_part result.1) (S.faults reader.new) }
+    ensures writes { FailsToWrite (W.faults writer.old) (script_part result.1)
+        (W.faults writer.new) }
+{
+    match FlashDisk::<B, L>::mount_as(alloc, bus, Firmness::Firm) {
+        Ok(disk) => run_life(alloc, with_policy(disk, policy), blank, reader, writer),
+        Err((left, error)) => (left, Err(RunFault::Mount(error))),
+    }
+}
+
+/// Runs a script on the disk of one life.
+fn run_life<B: SpiBus, L: Life, S: Source, W: Sink>(
+    alloc: Global,
+    disk: FlashDisk<B, L>,
+    blank: Blank,
+    reader: &mut S,
+    writer: &mut W,
+) -> (B, Result<(), RunFault>)
+    requires name { blank.name ≡ L.name }
+    requires parts { blank.parts ≡ L.parts }
+    requires some { 0 < L.parts }
+    requires firm { L.firm ≡ true }
+    requires sound { (⟦<FlashDisk<B, L> as Disk>⟧.facts disk).sound ≡ true }
+    requires ready { IsDiskReady (⟦<FlashDisk<B, L> as Disk>⟧.facts disk) }
+    requires cuts { (⟦<FlashDisk<B, L> as Disk>⟧.facts disk).cuts ≡ L.cuts }
+    requires slows { (⟦<FlashDisk<B, L> as Disk>⟧.facts disk).slows ≡ L.slows }
+    ensures says { B.slows result.0 ≡ L.slows → (losses : ℕ) × (B.cuts result.0 ≤ losses)
+        × RunsLife (⟦<FlashDisk<B, L> as Disk>⟧.facts disk) L.slows
+        (record {
+          input = S.remaining reader.old;
+          was = W.written writer.old;
+          answer = result.1;
+          left = S.remaining reader.new;
+          is = W.written writer.new;
+        })
+        (record {
+          chip = found L.draw (B.chip result.0);
+          cuts = losses;
+          slows = B.slows result.0;
+        }) }
+    ensures reads { FailsToReadAll (S.remaining reader.old) (S.faults reader.old)
+        (script_part result.1) (S.faults reader.new) }
+    ensures writes { FailsToWrite (W.faults writer.old) (script_part result.1)
+        (W.faults writer.new) }
+    ensures past { IsPastMount result.1 }
+{
+    match Station::new(alloc, LifeDisk::new(disk, blank)) {
+        Ok(station) => {
+            let mut station = station;
+            match station.run_script(reader, writer) {
+                Ok(()) => (station.into_inner().into_inner(), Ok(())),
+                Err(fault) => (
+                    station.into_inner().into_inner(),
+                    Err(RunFault::Script(fault)),
                 ),
             }
         }

@@ -1,6 +1,6 @@
 //! A chip that is formatted, mounted and read.
 
-ghost use Rattle.std.specs.Prelude.{◌≡◌, ◌≤◌, true, length, replicate};
+ghost use Rattle.std.specs.Prelude.{◌≡◌, ◌≤◌, false, true, length, replicate};
 ghost use Rattle.block_device.specs.Contents.{bytes_at};
 ghost use Rattle.flash_disk.specs.Contents.{contents_of};
 ghost use Rattle.flash_disk.specs.Formatted.{Formatted};
@@ -28,6 +28,7 @@ pub fn first_of_new<B: SpiBus>(alloc: Global, bus: B, into: &mut [u8]) -> (B, bo
 /// refused.
 fn first<B: SpiBus, P: Provenance>(alloc: Global, bus: B, into: &mut [u8]) -> (B, bool)
     requires sound { P.sound ≡ true }
+    requires plainly { P.firm ≡ false }
     requires counted { P.slows ≤ B.slows bus }
     requires formatted { Formatted (B.chip bus) }
     requires room { length into.old ≡ 512 }

@@ -108,7 +108,7 @@ fn write<D: Disk>(disk: &mut D, numbers: &mut [u32], sector: u32, number: u32) -
 }
 
 /// What a sector holds.
-fn read<D: Disk>(disk: &mut D, sector: u32) -> Result<[u8; 512], Fail> {
+pub(crate) fn read<D: Disk>(disk: &mut D, sector: u32) -> Result<[u8; 512], Fail> {
     let mut bytes = [0u8; 512];
     if sector >= disk.sectors() {
         return Err(Fail::new("no such sector"));

@@ -6,8 +6,9 @@
 //!
 //! There is no product code here. `first_of_new` formats a chip, mounts it as a sound disk and
 //! reads its first sector, so that the contracts of `format`, `mount` and `read` meet: it is proved
-//! to give zeros. The chips are `chip_simulator::SimChip`, of 64 KiB, one of
-//! them of 1 MiB.
+//! to give zeros. `first_life` mounts it firmly and runs a script on it, so that the contracts of
+//! `format` and `run_firmly` meet. The chips are `chip_simulator::SimChip`, of 64 KiB, one of them
+//! of 1 MiB.
 
 #![tactic(auto)]
 
@@ -17,6 +18,8 @@ mod chip_files;
 mod cuttings;
 #[cfg(test)]
 mod firm_mounts;
+#[cfg(test)]
+mod first_lives;
 #[cfg(test)]
 mod first_sector;
 mod fresh;
@@ -32,6 +35,7 @@ mod journal_chips;
 mod journal_sweep;
 #[cfg(test)]
 mod level;
+mod lives;
 #[cfg(test)]
 mod logs;
 #[cfg(test)]
@@ -60,3 +64,4 @@ mod wear;
 mod writes;
 
 pub use fresh::first_of_new;
+pub use lives::first_life;

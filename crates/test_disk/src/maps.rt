@@ -4,6 +4,7 @@ use chip_simulator::SimChip;
 use nor_driver::{Driver, NorError};
 use sector_map::{MapError, SectorMap};
 use std::alloc::Global;
+use std::marker::Brand;
 use std::test::*;
 use test_kit::chips::{filled, set};
 
@@ -27,7 +28,7 @@ fn of_call(answer: Result<(), NorError>) -> End {
 }
 
 /// The sectors of a simulated chip.
-pub(crate) type Sectors = SectorMap<Driver<SimChip>>;
+pub(crate) type Sectors = SectorMap<Driver<SimChip>, Brand>;
 
 /// How many there are on a chip of 64 KiB.
 pub(crate) const COUNT: u16 = 70;
