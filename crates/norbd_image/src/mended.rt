@@ -21,11 +21,15 @@ use std::marker::Brand;
 struct JustFormatted;
 
 impl Provenance for JustFormatted {
-    ghost use Rattle.std.specs.Prelude.{true};
+    ghost use Rattle.std.specs.Prelude.{false, true};
 
     ghost sound = { true };
 
     ghost slows = { 0 };
+
+    ghost firm = { false };
+
+    ghost cuts = { 0 };
 }
 
 /// The bytes of a chip of the same size that was freshly formatted and holds the sectors that these
