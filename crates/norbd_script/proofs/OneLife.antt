@@ -18,7 +18,7 @@ use Rattle.flash_disk.specs.Mounting.{IsQuiet}
 use Rattle.flash_disk.proofs.Sectors.{length-contents}
 use Rattle.norbd_script.specs.Lives.{IsHealthyChip, OnBus, Stay}
 use Rattle.norbd_script.specs.Running.{RunsOn}
-use Rattle.norbd_script.specs.OneLife.{Draw, IsLeftBy, Stands, found, life_facts}
+use Rattle.norbd_script.specs.OneLife.{CountsLosses, Draw, IsLeftBy, Stands, found, life_facts}
 use Rattle.norbd_script.proofs.Living.{not-setting}
 use Rattle.norbd_script.proofs.Chain.{GivenBack}
 
@@ -57,13 +57,32 @@ pub goes-same : (f : Facts) → CountsNeverFall f f
 goes-same f = record { size = refl; cuts = omega arith; slows = omega arith }
 
 -- the error that a call answered stands from then on; after any other answer nothing does
-pub stands-now : (T : Type 0) (e : DiskError) (k s : ℕ) (f f' : Facts) → Stands k s None f → Latches {T = T} f (Err e) f' → Stands k s (Some e) f'
-stands-now T Cut k s f f' x latched = (latched.1, latched.2 ∙ x.0.1)
-stands-now T Slow k s f f' x latched =
-    (latched.2, latched.3, elim latched.1 as (λ _. s < f'.slows) [ inl stood ↦ absurd (let no = x.0.1 in cc (stood, no)) | inr more ↦ (let at = x.2 in omega (arith, more, at)) ])
+pub stands-now : (T : Type 0) (e : DiskError) (k s : ℕ) (f f' : Facts) → Stands k s None f → Latches {T = T} f (Err e) f' → CountsNeverFall f f' → Stands k s (Some e) f'
+stands-now T Cut k s f f' x latched goes =
+    (latched.1, latched.2 ∙ x.0.1, elim latched.0 as (λ _. k < f'.cuts) [ inl stood ↦ absurd (let no = x.0.0 in cc (stood, no)) | inr came ↦ (let more = came.1 in let at = x.1 in omega (arith, more, at)) ])
+stands-now T Slow k s f f' x latched goes = (
+  latched.2,
+  latched.3,
+  elim latched.1 as (λ _. s < f'.slows) [ inl stood ↦ absurd (let no = x.0.1 in cc (stood, no)) | inr more ↦ (let at = x.2 in omega (arith, more, at)) ],
+  (let up = goes.cuts in let at = x.1 in omega (arith, up, at)),
+)
 
 pub stands-still : (T : Type 0) (v : T) (k s : ℕ) (f f' : Facts) → Stands k s None f → Latches f (Ok v) f' → IsQuiet f f' → Stands k s None f'
 stands-still T v k s f f' x latched quiet = (latched.1, quiet.0 ∙ x.1, quiet.1 ∙ x.2)
+
+-- no count fell since the life began
+pub rises-life : (standing : Option DiskError) (k s : ℕ) (f : Facts) → Stands k s standing f → k ≤ f.cuts
+rises-life None k s f x = (let at = x.1 in omega (arith, at))
+rises-life (Some Cut) k s f x = (let more = x.2 in omega (arith, more))
+rises-life (Some Slow) k s f x = x.3
+
+-- the losses of a life, with the restores behind the loss, of which there are none where none was counted
+pub counts-life : (standing : Option DiskError) (k s restores after : ℕ) (f : Facts) → Stands k s standing f → (f.cuts ≡ k → restores ≡ 0) → after ≡ f.cuts → CountsLosses k after (f.cuts + restores)
+counts-life standing k s restores after f x none same = record {
+  rises = (let up = rises-life standing k s f x in omega (arith, up, same));
+  counted = omega (arith, same);
+  none = λ still. (let zero = none (sym same ∙ still) in omega (arith, zero, same, still));
+}
 
 -- a call, of a disk that was ready
 pub latches-life : (T : Type 0) (r : Result T DiskError) (l l' : List ℕ) (n : ℕ) (f f' : Facts) → Latches f r f' → Latches (life_facts l n f) r (life_facts l' n f')

@@ -1,8 +1,8 @@
 -- One life of a chip whose torn bits waver: from a firm mount to the first loss of power, or to the
 -- end of the program. Between two lives the power goes, and the weak bits are drawn anew. Source:
 -- own.
-use Rattle.std.specs.Prelude.{◌≡◌, ℕ, ◌+◌, ◌<◌, true, false, List, [], ◌∷◌, length, Option, None}
-use Rattle.std.specs.Prelude.{Some, refl}
+use Rattle.std.specs.Prelude.{◌≡◌, ℕ, ◌+◌, ◌<◌, ◌≤◌, true, false, List, [], ◌∷◌, length, Option}
+use Rattle.std.specs.Prelude.{None, Some, refl}
 use Rattle.std.specs.Prelude.{Bool, not, ◌&&◌, ◌||◌, if◌then◌else◌}
 use Rattle.chip_model.specs.Chip.{Chip}
 use Rattle.chip_model.specs.Geometry.{sector_count}
@@ -62,8 +62,16 @@ life_facts later restores f = record {
 -- nothing, and none was counted; or its one error
 abbrev pub Stands : ℕ → ℕ → Option DiskError → Facts → Type 0
 Stands cuts slows None f = IsDiskReady f × (f.cuts ≡ cuts) × (f.slows ≡ slows)
-Stands cuts slows (Some Cut) f = (f.cut ≡ true) × (f.slow ≡ false)
-Stands cuts slows (Some Slow) f = (f.cut ≡ false) × (f.slow ≡ true) × (slows < f.slows)
+Stands cuts slows (Some Cut) f = (f.cut ≡ true) × (f.slow ≡ false) × (cuts < f.cuts)
+Stands cuts slows (Some Slow) f =
+    (f.cut ≡ false) × (f.slow ≡ true) × (slows < f.slows) × (cuts ≤ f.cuts)
+
+-- How many losses a life has at most, by how many its bus counted before it and after: none where
+-- that counted none. A restore behind the loss is one more.
+pub record CountsLosses (before after losses : ℕ) : Type 0 where
+  pub rises : before ≤ after
+  pub counted : after ≤ losses
+  pub none : after ≡ before → losses ≡ before
 
 -- a chip that a life left, as the next power-on finds it: it holds these contents, and the next
 -- life can begin with it

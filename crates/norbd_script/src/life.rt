@@ -1,8 +1,8 @@
 //! One life of a chip whose torn bits waver, and its disk.
 
-ghost use Rattle.std.specs.Prelude.{◌≡◌, ◌≤◌, ◌<◌, true};
+ghost use Rattle.std.specs.Prelude.{◌≡◌, ◌<◌, true};
 ghost use Rattle.block_device.specs.Facts.{IsDiskReady};
-ghost use Rattle.norbd_script.specs.OneLife.{IsLeftBy, found};
+ghost use Rattle.norbd_script.specs.OneLife.{CountsLosses, IsLeftBy, found};
 
 use block_device::{Disk, DiskError, Tally};
 use chip_model::SpiBus;
@@ -56,6 +56,7 @@ impl<B: SpiBus, L: Life> Model for LifeDisk<B, L> {
       stands : Stands L.cuts L.slows d.standing
           (disk_facts L.sound d.disk.checked d.disk.doubtful d.disk.lazy d.disk.map d.disk.cut);
       fit : d.standing ≡ Some Cut → AtEachDraw (bits_in d.disk.map) (λ _. Unit {0});
+      none : d.disk.map.cuts ≡ L.cuts → d.restores ≡ 0;
     } };
 }
 
@@ -82,7 +83,7 @@ impl<B: SpiBus, L: Life> LifeDisk<B, L> {
     /// Gives the bus back. Where no operation was slow, the next power-on finds a chip with the
     /// disk's contents, with which the next life can begin.
     pub(crate) fn into_inner(self) -> B
-        ensures cuts { B.cuts result ≤ self.cuts }
+        ensures cuts { CountsLosses L.cuts (B.cuts result) self.cuts }
         ensures slows { B.slows result ≡ self.slows }
         ensures left { B.slows result ≡ L.slows
             → IsLeftBy self.contents (found L.draw (B.chip result)) }

@@ -1,6 +1,6 @@
 //! Format, mount and a script in one call, and mount and a script in one, over any bus.
 
-ghost use Rattle.std.specs.Prelude.{◌≡◌, ◌*◌, ◌<◌, ◌≤◌, ℕ, true, false, length};
+ghost use Rattle.std.specs.Prelude.{◌≡◌, ◌*◌, ◌<◌, ℕ, true, false, length};
 ghost use Rattle.block_device.specs.Facts.{IsDiskReady};
 ghost use Rattle.chip_model.specs.Chip.{is_idle};
 ghost use Rattle.chip_model.specs.Geometry.{sector_count};
@@ -13,7 +13,7 @@ ghost use Rattle.sector_slots.specs.Slots.{IsClean};
 ghost use Rattle.norbd_script.specs.Answered.{AnswersScript, FormatLeft, FormatsAsTold};
 ghost use Rattle.norbd_script.specs.Answered.{IsPastFormat, script_part};
 ghost use Rattle.norbd_script.specs.Lives.{IsHealthyChip, RunsMounted};
-ghost use Rattle.norbd_script.specs.OneLife.{EndsLife, found};
+ghost use Rattle.norbd_script.specs.OneLife.{CountsLosses, EndsLife, found};
 ghost use Rattle.norbd_script.specs.Running.{IsPastMount, RunsLife, RunsOn};
 ghost use Rattle.nbd_station.specs.Script.{FailsToReadAll, FailsToWrite};
 
@@ -332,9 +332,8 @@ pub fn run_firmly<B: SpiBus, L: Life, S: Source, W: Sink>(
     requires sound { L.sound ≡ true }
     requires firm { L.firm ≡ true }
     requires begins { BeginsOn L.cuts L.slows Firm (B.chip bus) (B.cuts bus) (B.slows bus) }
-    // a restore that followed the loss counts as one more
     ensures says { IsPastMount result.1 → B.slows result.0 ≡ B.slows bus
-        → (losses : ℕ) × (B.cuts result.0 ≤ losses) × EndsLife
+        → (losses : ℕ) × CountsLosses (B.cuts bus) (B.cuts result.0) losses × EndsLife
         (record { chip = B.chip bus; cuts = B.cuts bus; slows = B.slows bus })
         (record {
           input = S.remaining reader.old;
@@ -389,7 +388,8 @@ fn run_life<B: SpiBus, L: Life, S: Source, W: Sink>(
     requires ready { IsDiskReady (⟦<FlashDisk<B, L> as Disk>⟧.facts disk) }
     requires cuts { (⟦<FlashDisk<B, L> as Disk>⟧.facts disk).cuts ≡ L.cuts }
     requires slows { (⟦<FlashDisk<B, L> as Disk>⟧.facts disk).slows ≡ L.slows }
-    ensures says { B.slows result.0 ≡ L.slows → (losses : ℕ) × (B.cuts result.0 ≤ losses)
+    ensures says { B.slows result.0 ≡ L.slows → (losses : ℕ)
+        × CountsLosses L.cuts (B.cuts result.0) losses
         × RunsLife (⟦<FlashDisk<B, L> as Disk>⟧.facts disk) L.slows
         (record {
           input = S.remaining reader.old;

@@ -74,11 +74,12 @@ fn found(alloc: Global, mut chip: SimChip, draw: u8) -> Result<u8, Fail> {
 /// The first write of a sector is four changes (docs/SECTORS.md): its descriptor, the two pages of
 /// its bytes, and its commit; before them a firm disk makes its slot sure. The power goes in each
 /// of all these, and the next life finds the sector old or new; new, where the write was
-/// acknowledged.
+/// acknowledged. A restore behind the write is lost where the write is, and else done.
 #[test]
 fn the_next_life_finds_the_sector_old_or_new(rt: HostRuntime) -> Result<(), Fail> {
-    let script = bytes_of(rt.alloc(), "START WRITE_6 5A*512")?;
-    let done = bytes_of(rt.alloc(), "STARTED WRITTEN")?;
+    let script = bytes_of(rt.alloc(), "START WRITE_6 5A*512 RESTORE")?;
+    let done = bytes_of(rt.alloc(), "STARTED WRITTEN ALL_DONE")?;
+    let lost = bytes_of(rt.alloc(), "STARTED LOST ALL_LOST")?;
     for draw in [0x00u8, 0xFF, 0x0F] {
         let mut cuts = 0u32;
         let mut is_done = false;
@@ -97,6 +98,7 @@ fn the_next_life_finds_the_sector_old_or_new(rt: HostRuntime) -> Result<(), Fail
                 assert_eq!(rt; byte, 0x5A);
                 break;
             }
+            assert!(rt; room.get(..len) == Some(lost.as_slice()));
             cuts = cuts.saturating_add(1);
             assert!(rt; byte == 0x5A || byte == 0x00);
         }

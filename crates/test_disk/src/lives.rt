@@ -1,9 +1,9 @@
 //! The first life of a chip whose torn bits waver.
 
-ghost use Rattle.std.specs.Prelude.{◌≡◌, ◌<◌, ◌≤◌, ℕ, true, IfSome};
+ghost use Rattle.std.specs.Prelude.{◌≡◌, ◌<◌, ℕ, true, IfSome};
 ghost use Rattle.chip_model.specs.Chip.{Chip};
 ghost use Rattle.flash_disk.specs.Formatted.{Formatted};
-ghost use Rattle.norbd_script.specs.OneLife.{EndsLife, found};
+ghost use Rattle.norbd_script.specs.OneLife.{CountsLosses, EndsLife, found};
 ghost use Rattle.norbd_script.specs.Running.{IsPastMount};
 
 use block_device::{Sink, Source};
@@ -32,7 +32,8 @@ pub fn first_life<B: SpiBus, L: Life, S: Source, W: Sink>(
     requires cuts { L.cuts ≡ B.cuts bus }
     requires slows { L.slows ≡ B.slows bus }
     ensures lives { IfSome result.1 (λ answer. IsPastMount answer → B.slows result.0 ≡ B.slows bus
-        → (begun : Chip) × Formatted begun × (losses : ℕ) × (B.cuts result.0 ≤ losses) × EndsLife
+        → (begun : Chip) × Formatted begun × (losses : ℕ)
+        × CountsLosses (B.cuts bus) (B.cuts result.0) losses × EndsLife
         (record { chip = begun; cuts = B.cuts bus; slows = B.slows bus })
         (record {
           input = S.remaining reader.old;

@@ -2,11 +2,12 @@
 //! is 0102030405060708, the connection 0.
 
 /// Names, each with the digits that it represents.
-pub(crate) const PHRASES: [&str; 12] = [
+pub(crate) const PHRASES: [&str; 15] = [
     "OPEN 4F 00 00000000",
     // an open, the flags and a GO
     "START 4F 00 00000000 50 00 00000004 00000003 50 00 0000001B 49484156454F5054 00000007 0000000B 00000005 666C617368 0000",
     "TIDY 54 FF 00000000",
+    "RESTORE 52 FF 00000000",
     "WRITE_6 50 00 0000021C 25609513 0000 0001 0102030405060708 0000000000000C00 00000200",
     "READ_6 50 00 0000001C 25609513 0000 0000 0102030405060708 0000000000000C00 00000200",
     "GREETED 00 44 00000012 4E42444D41474943 49484156454F5054 0003 00 41 00000000",
@@ -22,4 +23,7 @@ pub(crate) const PHRASES: [&str; 12] = [
     "DONE 00 41 00000000",
     // of a tidying or a restore
     "ALL_DONE FF 41 00000000",
+    // the answers of a WRITE and of a restore where the power was lost
+    "LOST 00 4C 00000000",
+    "ALL_LOST FF 4C 00000000",
 ];

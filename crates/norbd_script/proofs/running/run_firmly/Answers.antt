@@ -1,6 +1,6 @@
 use Rattle.std.proofs.Common.{◌∙◌, refl, sym, subst, arith}
 use Rattle.norbd_script.specs.Lives.{OnBus}
-use Rattle.norbd_script.specs.OneLife.{disk_facts, found}
+use Rattle.norbd_script.specs.OneLife.{CountsLosses, disk_facts, found}
 use Rattle.norbd_script.proofs.OneLife.{life-runs}
 use Rattle.norbd_script.proofs.Staying.{checked-by, refused_mount, run_checked}
 use Rattle.norbd_script.proofs.running.run_firmly.Goals as goal
@@ -18,7 +18,7 @@ returns-in-Ok-clause-says g c past quiet =
     let new : OnBus = record { chip = found g.L.Life.draw (g.B.SpiBus.chip bus); cuts = r.0; slows = g.B.SpiBus.slows bus } in
     let k = checked-by old d.map.memory g.L.Provenance.sound f f e.opened e.from e.accepted e.keeps (omega arith) (omega arith) refl in (
       r.0,
-      r.1,
+      subst (λ n. CountsLosses n (g.B.SpiBus.cuts bus) r.0) (sym b.cuts_are) r.1,
       record {
         runs = run_checked old new d.map.memory f p _ k e.opened.cuts_are e.opened.slows_are (sym b.slows_are) c.run_life.ensures.past (life-runs _ f p _ new c.with_policy.ensures r.2.runs);
         fit = r.2.fit;

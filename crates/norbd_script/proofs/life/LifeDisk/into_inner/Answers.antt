@@ -1,9 +1,19 @@
 use Rattle.std.proofs.Common.{◌∙◌, subst, sym}
 use Rattle.block_device.specs.Facts.{Facts}
 use Rattle.nor_driver.specs.State.{bits_in}
-use Rattle.norbd_script.specs.OneLife.{IsLeftBy, disk_facts, found}
-use Rattle.norbd_script.proofs.OneLife.{left-by-life}
+use Rattle.norbd_script.specs.OneLife.{CountsLosses, IsLeftBy, disk_facts, found}
+use Rattle.norbd_script.proofs.OneLife.{counts-life, left-by-life}
 use Rattle.norbd_script.proofs.life.LifeDisk.into_inner.Goals as goal
+
+pub returns-clause-cuts : goal.returns-clause-cuts
+returns-clause-cuts g c =
+    let d = c.self.inside.disk in
+    let e = c.into_inner.ensures in
+    let v = c.self.invariant in
+    let k = g.L.Provenance.cuts in
+    let f = disk_facts g.L.Provenance.sound d.checked d.doubtful d.lazy d.map d.cut in
+    subst (λ (x : Facts). CountsLosses k (g.B.SpiBus.cuts c.into_inner.result) x.cuts) c.self.view_is
+    (counts-life c.self.inside.standing k g.L.Provenance.slows c.self.inside.restores (g.B.SpiBus.cuts c.into_inner.result) f v.stands v.none e.cuts)
 
 pub returns-clause-left : goal.returns-clause-left
 returns-clause-left g c slows =
