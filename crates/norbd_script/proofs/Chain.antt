@@ -1,6 +1,6 @@
 -- a run of a station that was just made of a sound disk
 use Rattle.std.proofs.Common.{arith, ◌≡◌, ℕ, ◌*◌, true, false, List, length, Option, None, refl, sym, ◌∙◌, ap, subst, replicate}
-use Rattle.std.specs.Prelude.{Bool, not, ◌&&◌, ◌||◌, is_ok, Result, Ok, Err}
+use Rattle.std.specs.Prelude.{not, is_ok, Result, Ok, Err}
 use Rattle.std.proofs.lemmas.Bool.{false≢true}
 use Rattle.std.proofs.lemmas.List.{length-replicate}
 use Rattle.block_device.specs.Facts.{Facts, CountsNeverFall, IsDiskReady}
@@ -19,7 +19,6 @@ use Rattle.sector_map.proofs.Marking.{laid-formatted}
 use Rattle.sector_map.specs.Maps.{IsMountable}
 use Rattle.chip_model.specs.Chip.{Chip, is_idle}
 use Rattle.chip_model.specs.Geometry.{sector_count}
-use Rattle.nor_driver.specs.State.{NorState}
 use Rattle.nor_driver.specs.Probe.{IsAcceptedChip, Readings, probe_answer, told}
 use Rattle.nor_driver.specs.declared.error.ProbeError.{ProbeError}
 use Rattle.nor_driver.specs.declared.error.ProbeError.TheVariants as probes

@@ -1,5 +1,5 @@
 -- The disk of one life of a chip: its calls, by those of the disk on the chip.
-use Rattle.std.proofs.Common.{◌≡◌, ◌≢◌, ◌⊎◌, ℕ, ◌+◌, ◌*◌, ◌<◌, ◌≤◌, true, false, List, length, Option, None, Some, refl, sym, ◌∙◌, ap, subst, arith, inl, inr}
+use Rattle.std.proofs.Common.{◌≡◌, ℕ, ◌+◌, ◌*◌, ◌<◌, ◌≤◌, true, false, List, length, Option, None, Some, refl, sym, ◌∙◌, ap, subst, arith, inl, inr}
 use Rattle.std.specs.Prelude.{Bool, Result, Ok, Err, if◌then◌else◌}
 use Rattle.std.specs.Result.{IsErrOf}
 use Rattle.chip_model.specs.Chip.{Chip, is_idle}
@@ -7,7 +7,6 @@ use Rattle.chip_model.specs.Geometry.{sector_count}
 use Rattle.chip_model.specs.Wavering.{Bits, bits_of}
 use Rattle.nor_driver.specs.Probe.{IsAcceptedChip}
 use Rattle.nor_driver.proofs.Stays.{accepted_shape}
-use Rattle.sector_slots.specs.Fit.{IsFitForFirmMount}
 use Rattle.sector_map.specs.Maps.{IsMountable}
 use Rattle.block_device.specs.declared.disk.DiskError.{DiskError}
 use Rattle.block_device.specs.declared.disk.DiskError.TheVariants.{Cut, Slow}
@@ -18,7 +17,8 @@ use Rattle.flash_disk.specs.Mounting.{IsQuiet}
 use Rattle.flash_disk.proofs.Sectors.{length-contents}
 use Rattle.norbd_script.specs.Lives.{IsHealthyChip, OnBus, Stay}
 use Rattle.norbd_script.specs.Running.{RunsOn}
-use Rattle.norbd_script.specs.OneLife.{CountsLosses, Draw, IsLeftBy, Stands, found, life_facts}
+use Rattle.restored_disk.specs.Lives.{Draw}
+use Rattle.norbd_script.specs.OneLife.{CountsLosses, IsLeftBy, Stands, found, life_facts}
 use Rattle.norbd_script.proofs.Living.{not-setting}
 use Rattle.norbd_script.proofs.Chain.{GivenBack}
 

@@ -12,7 +12,7 @@ use Rattle.sector_slots.specs.Slots.{IsClean}
 use Rattle.sector_map.proofs.Marking.{disk-laid}
 use Rattle.sector_map.specs.Maps.{IsMountable, KeepsEach}
 use Rattle.flash_disk.specs.Contents.{contents_of}
-use Rattle.flash_disk.specs.Mounting.{CheckCounts, IsIdleAfter, Opened, OpenedFrom, RefusedAt, RefusedAs, RefusedFor}
+use Rattle.flash_disk.specs.Mounting.{CallCounts, IsIdleAfter, Opened, OpenedFrom, RefusedAt, RefusedAs, RefusedFor}
 use Rattle.flash_disk.specs.declared.error.MountError.{MountError}
 use Rattle.flash_disk.specs.declared.error.MountError.TheVariants as mounts
 use Rattle.flash_disk.proofs.Sectors.{length-contents}
@@ -125,16 +125,16 @@ checked-by old m sound f0 f opened from accepted keeps cuts slows same = record 
 pub check_ok : (sound : Bool) (f0 f : Facts) → Latches f0 (Ok sound) f → f.slow ≡ false
 check_ok sound f0 f l = l.1.1
 
-pub check_cut : (e : DiskError) (f0 f : Facts) (k : ℕ) → e ≡ errors.Cut → Latches {T = Bool} f0 (Err e) f → CheckCounts (Err e) f0 f → IsDiskReady f0 → f0.cuts ≡ k → (k < f.cuts) × (f.slows ≡ f0.slows) × (f.slow ≡ false)
+pub check_cut : (e : DiskError) (f0 f : Facts) (k : ℕ) → e ≡ errors.Cut → Latches {T = Bool} f0 (Err e) f → CallCounts {T = Bool} (Err e) f0 f → IsDiskReady f0 → f0.cuts ≡ k → (k < f.cuts) × (f.slows ≡ f0.slows) × (f.slow ≡ false)
 check_cut e f0 f k is latched counts ready at =
     let l = subst (λ x. Latches {T = Bool} f0 (Err x) f) is latched in
-    let n = subst (λ x. CheckCounts (Err x) f0 f) is counts in
+    let n = subst (λ x. CallCounts {T = Bool} (Err x) f0 f) is counts in
     (elim l.0 as (λ _. k < f.cuts) [ inl stood ↦ absurd (let no = ready.0 in cc (stood, no)) | inr came ↦ (let more = came.1 in omega (arith, more, at)) ], n, l.2 ∙ ready.1)
 
-pub check_slow : (e : DiskError) (f0 f : Facts) (k : ℕ) → e ≡ errors.Slow → Latches {T = Bool} f0 (Err e) f → CheckCounts (Err e) f0 f → IsDiskReady f0 → f0.slows ≡ k → (f.cuts ≡ f0.cuts) × (k < f.slows)
+pub check_slow : (e : DiskError) (f0 f : Facts) (k : ℕ) → e ≡ errors.Slow → Latches {T = Bool} f0 (Err e) f → CallCounts {T = Bool} (Err e) f0 f → IsDiskReady f0 → f0.slows ≡ k → (f.cuts ≡ f0.cuts) × (k < f.slows)
 check_slow e f0 f k is latched counts ready at =
     let l = subst (λ x. Latches {T = Bool} f0 (Err x) f) is latched in
-    let n = subst (λ x. CheckCounts (Err x) f0 f) is counts in
+    let n = subst (λ x. CallCounts {T = Bool} (Err x) f0 f) is counts in
     (n, elim l.1 as (λ _. k < f.slows) [ inl stood ↦ absurd (let no = ready.1 in cc (stood, no)) | inr more ↦ omega (arith, more, at) ])
 
 -- the script was run, or there was no memory for the station

@@ -2,47 +2,23 @@
 -- end of the program. Between two lives the power goes, and the weak bits are drawn anew. Source:
 -- own.
 use Rattle.std.specs.Prelude.{◌≡◌, ℕ, ◌+◌, ◌<◌, ◌≤◌, true, false, List, [], ◌∷◌, length, Option}
-use Rattle.std.specs.Prelude.{None, Some, refl}
-use Rattle.std.specs.Prelude.{Bool, not, ◌&&◌, ◌||◌, if◌then◌else◌}
+use Rattle.std.specs.Prelude.{None, Some}
+use Rattle.std.specs.Prelude.{if◌then◌else◌}
 use Rattle.chip_model.specs.Chip.{Chip}
 use Rattle.chip_model.specs.Geometry.{sector_count}
-use Rattle.chip_model.specs.Wavering.{Bits, Drawn, bits_of}
+use Rattle.chip_model.specs.Wavering.{Bits, bits_of}
 use Rattle.sector_slots.specs.Fit.{IsFitForFirmMount}
 use Rattle.block_device.specs.declared.disk.DiskError.{DiskError}
 use Rattle.block_device.specs.declared.disk.DiskError.TheVariants.{Cut, Slow}
 use Rattle.block_device.specs.Facts.{Facts, IsDiskReady}
-use Rattle.flash_disk.specs.Contents.{contents_of, wanted_work}
-use Rattle.nor_driver.specs.State.{NorState}
+use Rattle.flash_disk.specs.Contents.{contents_of}
+use Rattle.restored_disk.specs.Lives.{Draw}
 use Rattle.norbd_script.specs.Lives.{IsHealthyChip, LeftAlone, Lives, MountedRun, OnBus}
 use Rattle.norbd_script.specs.Lives.{RunsMounted, Stay, StaysHealthy}
-
--- what a chip with these bits reads as after a power-on
-pub record Draw (b : Bits) : Type 0 where
-  pub later : List ℕ
-  pub drawn : Drawn b.weak b.shown later
-
--- as it did before
-abbrev pub as_before : (b : Bits) → Draw b
-as_before b = record {
-  later = b.shown;
-  drawn = record { same_length = refl; firm = λ i k firm. refl };
-}
 
 -- the chip as the next power-on finds it
 abbrev pub found : ((b : Bits) → Draw b) → Chip → Chip
 found draw c = record c { memory = (draw (bits_of c)).later }
-
--- what is known of the disk on a chip, by its fields
-abbrev pub disk_facts : Bool → Bool → Bool → Bool → NorState → Bool → Facts
-disk_facts known checked doubtful lazy map cut = record {
-  sound = (known || checked) && not doubtful;
-  contents = contents_of map.memory;
-  cuts = map.cuts;
-  slows = map.slows;
-  cut = cut;
-  slow = map.is_slow;
-  work = wanted_work lazy map.memory;
-}
 
 -- What is known of the disk of one life, by what is known of the one on the chip, by the contents
 -- that the next power-on finds, and by the number of restores after the loss: once the power is

@@ -14,14 +14,14 @@ use std::sync::ledger::{Blank, Ledger};
 /// value is made. Source: own.
 pub trait Life: Provenance + Ledger {
     ghost use Rattle.chip_model.specs.Wavering.{Bits};
-    ghost use Rattle.norbd_script.specs.OneLife.{Draw};
+    ghost use Rattle.restored_disk.specs.Lives.{Draw};
 
     /// What the chip's weak bits read as at the power-on after it.
     ghost draw: { (b : Bits) → Draw b };
 }
 
 impl Life for Brand {
-    ghost use Rattle.norbd_script.specs.OneLife.{as_before};
+    ghost use Rattle.restored_disk.specs.Lives.{as_before};
 
     ghost draw = { as_before };
 }
@@ -30,20 +30,21 @@ impl Life for Brand {
 /// call answers it again, `restore` too. After a loss of power its contents are those that the next
 /// power-on finds.
 #[derive(Drop)]
-pub(crate) struct LifeDisk<B: SpiBus, L: Life> {
+pub(crate) struct OneLifeDisk<B: SpiBus, L: Life> {
     disk: FlashDisk<B, L>,
     standing: Option<DiskError>,
     // how often it was to be restored after the loss
     restores: Tally<L>,
 }
 
-impl<B: SpiBus, L: Life> Model for LifeDisk<B, L> {
+impl<B: SpiBus, L: Life> Model for OneLifeDisk<B, L> {
     ghost use Rattle.std.specs.Prelude.{◌≡◌, ◌&&◌, ◌||◌, not, true, Some};
     ghost use Rattle.block_device.specs.Facts.{Facts};
     ghost use Rattle.block_device.specs.declared.disk.DiskError.TheVariants.{Cut};
     ghost use Rattle.flash_disk.specs.Contents.{AtEachDraw, contents_of};
     ghost use Rattle.nor_driver.specs.State.{bits_in};
-    ghost use Rattle.norbd_script.specs.OneLife.{Stands, disk_facts, life_facts};
+    ghost use Rattle.restored_disk.specs.Lives.{disk_facts};
+    ghost use Rattle.norbd_script.specs.OneLife.{Stands, life_facts};
 
     ghost Value = { Facts };
 
@@ -60,7 +61,7 @@ impl<B: SpiBus, L: Life> Model for LifeDisk<B, L> {
     } };
 }
 
-impl<B: SpiBus, L: Life> LifeDisk<B, L> {
+impl<B: SpiBus, L: Life> OneLifeDisk<B, L> {
     /// The disk of a life that begins with this one, which was mounted firmly.
     pub(crate) fn new(disk: FlashDisk<B, L>, blank: Blank) -> Self
         requires name { blank.name ≡ L.name }
@@ -73,7 +74,7 @@ impl<B: SpiBus, L: Life> LifeDisk<B, L> {
         requires slows { (⟦<FlashDisk<B, L> as Disk>⟧.facts disk).slows ≡ L.slows }
         ensures { result ≡ ⟦<FlashDisk<B, L> as Disk>⟧.facts disk }
     {
-        LifeDisk {
+        OneLifeDisk {
             disk,
             standing: None,
             restores: Tally::new(blank),
@@ -88,7 +89,7 @@ impl<B: SpiBus, L: Life> LifeDisk<B, L> {
         ensures left { B.slows result ≡ L.slows
             → IsLeftBy self.contents (found L.draw (B.chip result)) }
     {
-        let LifeDisk {
+        let OneLifeDisk {
             disk,
             standing: _standing,
             restores: _restores,
@@ -97,7 +98,7 @@ impl<B: SpiBus, L: Life> LifeDisk<B, L> {
     }
 }
 
-impl<B: SpiBus, L: Life> Disk for LifeDisk<B, L> {
+impl<B: SpiBus, L: Life> Disk for OneLifeDisk<B, L> {
     ghost facts = { λ d. d };
 
     fn sectors(&self) -> u32 {

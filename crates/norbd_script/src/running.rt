@@ -18,7 +18,7 @@ ghost use Rattle.norbd_script.specs.Running.{IsPastMount, RunsLife, RunsOn};
 ghost use Rattle.nbd_station.specs.Script.{FailsToReadAll, FailsToWrite};
 
 use crate::error::RunFault;
-use crate::life::{Life, LifeDisk};
+use crate::life::{Life, OneLifeDisk};
 use block_device::{Disk, DiskError, Sink, Source};
 use chip_model::SpiBus;
 use erase_journal::Firmness;
@@ -409,7 +409,7 @@ fn run_life<B: SpiBus, L: Life, S: Source, W: Sink>(
         (W.faults writer.new) }
     ensures past { IsPastMount result.1 }
 {
-    match Station::new(alloc, LifeDisk::new(disk, blank)) {
+    match Station::new(alloc, OneLifeDisk::new(disk, blank)) {
         Ok(station) => {
             let mut station = station;
             match station.run_script(reader, writer) {

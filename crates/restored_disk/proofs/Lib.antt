@@ -1,1 +1,2 @@
 pub mod Resuming
+pub mod Lives

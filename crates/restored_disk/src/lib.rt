@@ -1,4 +1,14 @@
-//! A disk that is restored where it lost its power, and then does the call again.
+//! The disk of a chip that has one life after another, and a disk that is restored where it lost
+//! its power, and then does the call again.
+//!
+//! `PowerCycle` is a bus whose chip begins its next life by a power-on, at which the bits that a
+//! loss of power tore read otherwise; `OneLife` makes one of any `SpiBus`, whose chip reads as
+//! before. `LifeDisk` is the `Disk` of such a chip: its `restore` turns the power off and on and
+//! mounts the chip firmly. Where it was mounted so from a chip that was fit for it (`P.firm`), each
+//! life holds the contents that the one before it left, an interrupted write leaves each sector old
+//! or new at the next power-on, and the chip that is given back is fit for the next firm mount:
+//! with its contents however its weak bits read, or after a loss as they are drawn (`into_inner`).
+//! The number of losses inside a mount is 0: once a mount was refused the disk is lost for good.
 //!
 //! `RestoredDisk` is a `Disk` over another one. Where that answers Cut to a call and no Cut stood,
 //! its power is turned on anew by `restore`, once for a call; where that went well the call is made
@@ -12,5 +22,11 @@
 #![tactic(auto)]
 
 mod disk;
+mod life;
+mod one_life;
+mod power;
 
 pub use disk::RestoredDisk;
+pub use life::{Habits, LifeDisk};
+pub use one_life::OneLife;
+pub use power::PowerCycle;

@@ -7,8 +7,8 @@
 //! There is no product code here. `first_of_new` formats a chip, mounts it as a sound disk and
 //! reads its first sector, so that the contracts of `format`, `mount` and `read` meet: it is proved
 //! to give zeros. `first_life` mounts it firmly and runs a script on it, so that the contracts of
-//! `format` and `run_firmly` meet. The chips are `chip_simulator::SimChip`, of 64 KiB, one of them
-//! of 1 MiB.
+//! `format` and `run_firmly` meet, and `new_lives` makes the disk of its lives. The chips are
+//! `chip_simulator::SimChip`, of 64 KiB, one of them of 1 MiB.
 
 #![tactic(auto)]
 
@@ -23,6 +23,7 @@ mod first_lives;
 #[cfg(test)]
 mod first_sector;
 mod fresh;
+mod fresh_lives;
 #[cfg(test)]
 mod host;
 #[cfg(test)]
@@ -51,6 +52,8 @@ mod phrases;
 #[cfg(test)]
 mod replacing;
 #[cfg(test)]
+mod restored_lives;
+#[cfg(test)]
 mod rows;
 #[cfg(test)]
 mod scripts;
@@ -64,4 +67,5 @@ mod wear;
 mod writes;
 
 pub use fresh::first_of_new;
+pub use fresh_lives::new_lives;
 pub use lives::first_life;

@@ -1,7 +1,7 @@
 use Rattle.std.proofs.Common.{ap, ◌∙◌}
 use Rattle.block_device.specs.Facts.{Facts}
 use Rattle.norbd_script.specs.Lives.{OnBus}
-use Rattle.norbd_script.specs.OneLife.{disk_facts}
+use Rattle.restored_disk.specs.Lives.{disk_facts}
 use Rattle.norbd_script.proofs.Chain.{ran_ok, ran_err, ran_nothing}
 use Rattle.norbd_script.proofs.running.run_as_is.Goals as goal
 

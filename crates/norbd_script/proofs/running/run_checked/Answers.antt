@@ -1,6 +1,6 @@
 use Rattle.std.proofs.Common.{◌∙◌, false, rules}
 use Rattle.norbd_script.specs.Lives.{OnBus}
-use Rattle.norbd_script.specs.OneLife.{disk_facts}
+use Rattle.restored_disk.specs.Lives.{disk_facts}
 use Rattle.norbd_script.proofs.Staying.{check_ok, check_cut, checked-by, cut_in_check, not_clean, refused_mount, run_checked}
 use Rattle.norbd_script.proofs.running.run_checked.Goals as goal
 

@@ -1,6 +1,7 @@
 use Rattle.std.proofs.Common.{◌∙◌, refl, sym, subst, arith}
 use Rattle.norbd_script.specs.Lives.{OnBus}
-use Rattle.norbd_script.specs.OneLife.{CountsLosses, disk_facts, found}
+use Rattle.restored_disk.specs.Lives.{disk_facts}
+use Rattle.norbd_script.specs.OneLife.{CountsLosses, found}
 use Rattle.norbd_script.proofs.OneLife.{life-runs}
 use Rattle.norbd_script.proofs.Staying.{checked-by, refused_mount, run_checked}
 use Rattle.norbd_script.proofs.running.run_firmly.Goals as goal

@@ -1,6 +1,6 @@
 use Rattle.std.specs.Prelude.{true}
 use Rattle.chip_simulator.specs.Sim.{cuts_of, slows_of}
-use Rattle.norbd_script.specs.OneLife.{as_before}
+use Rattle.restored_disk.specs.Lives.{as_before}
 use Rattle.test_disk.proofs.first_lives.live.Given as goal
 
 -- a life that begins with this chip, and the ledgers of this call's blanks

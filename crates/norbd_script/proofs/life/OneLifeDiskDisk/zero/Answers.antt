@@ -4,9 +4,10 @@ use Rattle.block_device.specs.Contents.{Outcome, replaced}
 use Rattle.block_device.specs.Facts.{CountsNeverFall, Facts, Writes}
 use Rattle.nor_driver.specs.State.{bits_in}
 use Rattle.flash_disk.specs.Contents.{contents_of}
-use Rattle.norbd_script.specs.OneLife.{disk_facts, life_facts}
+use Rattle.restored_disk.specs.Lives.{disk_facts}
+use Rattle.norbd_script.specs.OneLife.{life_facts}
 use Rattle.norbd_script.proofs.OneLife.{at-draw, goes-life, size-drawn, writes-life}
-use Rattle.norbd_script.proofs.life.LifeDiskDisk.zero.Goals as goal
+use Rattle.norbd_script.proofs.life.OneLifeDiskDisk.zero.Goals as goal
 
 pub returns-in-Err-clause-contents : goal.returns-in-Err-clause-contents
 returns-in-Err-clause-contents g c is =

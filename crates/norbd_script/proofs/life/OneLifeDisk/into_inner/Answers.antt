@@ -1,9 +1,10 @@
 use Rattle.std.proofs.Common.{◌∙◌, subst, sym}
 use Rattle.block_device.specs.Facts.{Facts}
 use Rattle.nor_driver.specs.State.{bits_in}
-use Rattle.norbd_script.specs.OneLife.{CountsLosses, IsLeftBy, disk_facts, found}
+use Rattle.restored_disk.specs.Lives.{disk_facts}
+use Rattle.norbd_script.specs.OneLife.{CountsLosses, IsLeftBy, found}
 use Rattle.norbd_script.proofs.OneLife.{counts-life, left-by-life}
-use Rattle.norbd_script.proofs.life.LifeDisk.into_inner.Goals as goal
+use Rattle.norbd_script.proofs.life.OneLifeDisk.into_inner.Goals as goal
 
 pub returns-clause-cuts : goal.returns-clause-cuts
 returns-clause-cuts g c =

@@ -3,7 +3,7 @@ use Rattle.block_device.specs.Facts.{Facts}
 use Rattle.nor_driver.specs.State.{bits_in}
 use Rattle.flash_disk.specs.Contents.{contents_of}
 use Rattle.norbd_script.proofs.OneLife.{size-drawn, size-life}
-use Rattle.norbd_script.proofs.life.LifeDiskDisk.sectors.Goals as goal
+use Rattle.norbd_script.proofs.life.OneLifeDiskDisk.sectors.Goals as goal
 
 pub returns : goal.returns
 returns g c =
