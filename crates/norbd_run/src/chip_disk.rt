@@ -1,6 +1,7 @@
 //! The disk on the chip behind a programmer.
 ghost use Rattle.std.specs.Prelude.{◌≡◌, IfErr, IfOk, length, true};
 ghost use Rattle.block_device.specs.Facts.{IsDiskReady};
+ghost use Rattle.chip_model.specs.Chip.{is_idle};
 ghost use Rattle.chip_model.specs.Geometry.{IsChipSize};
 ghost use Rattle.norbd_run.specs.Chips.{told_of_chip};
 ghost use Rattle.norbd_run.specs.Listening.{IsRefusal};
@@ -68,14 +69,43 @@ where
     }
 }
 
-/// The disk on such a chip: its departures are noted, and its erases counted.
-pub(crate) type FlashBehind<'r, 'p, 'n, R> = FlashDisk<
-    CountedBus<Noting<'n, Reached<'r, 'p, 'n, R, Reporter<'r, R>>>>,
-    Brand,
->;
+/// The bus to such a chip, whose departures are noted.
+pub(crate) type BusBehind<'r, 'p, 'n, R> = Noting<'n, Reached<'r, 'p, 'n, R, Reporter<'r, R>>>;
+
+/// The disk on it, whose erases are counted.
+pub(crate) type FlashBehind<'r, 'p, 'n, R> = FlashDisk<CountedBus<BusBehind<'r, 'p, 'n, R>>, Brand>;
 
 /// The same where it goes on after a loss that the chip came through.
 pub(crate) type DiskBehind<'r, 'p, 'n, R> = RestoredDisk<FlashBehind<'r, 'p, 'n, R>>;
+
+/// The bus to the chip behind the programmer at a place, on which nothing is in progress, and a
+/// copy of its memory.
+#[tactic(auto, using(crate::proofs::Refusals::chip_is_refusal))]
+pub(crate) fn bus_behind<'r, 'p, 'n, R>(
+    rt: &'r R,
+    place: ProgrammerPlace<'p>,
+    trusts: bool,
+    noted: &'n Noted,
+) -> Result<(BusBehind<'r, 'p, 'n, R>, Vec<u8>), Fault>
+where
+    R: Files + AllocGlobal + Clock + Log + Net<Stream = TcpStream>,
+    R: 'static,
+    ensures refused { IfErr result IsRefusal }
+    ensures idle { IfOk result (λ reached. is_idle
+        (⟦<BusBehind<'r, 'p, 'n, R> as SpiBus>⟧.chip reached.0).operation ≡ true) }
+    ensures copy { IfOk result (λ reached. reached.1.items
+        ≡ (⟦<BusBehind<'r, 'p, 'n, R> as SpiBus>⟧.chip reached.0).memory) }
+    ensures size { IfOk result (λ reached. IsChipSize (length reached.1.items)) }
+{
+    let bus = match watch_noting(rt, Reporter { rt }, rt.alloc(), place, trusts, noted) {
+        Ok(bus) => bus,
+        Err(fault) => return Err(told_of_chip(fault)),
+    };
+    match bus.memory().to_vec(rt.alloc()) {
+        Ok(copy) => Ok((bus, copy)),
+        Err(_) => Err(Fault::NoMemory),
+    }
+}
 
 /// The disk on the chip behind the programmer at a place, whose departures are noted. Its torn bits
 /// are taken to waver. Where it is lost, that is told, and so is its return.
@@ -121,12 +151,9 @@ where
     ensures ready { IfOk result (λ disk.
         IsDiskReady (⟦<FlashBehind<'r, 'p, 'n, R> as Disk>⟧.facts disk)) }
 {
-    let bus = match watch_noting(rt, Reporter { rt }, rt.alloc(), place, trusts, noted) {
-        Ok(bus) => bus,
-        Err(fault) => return Err(told_of_chip(fault)),
-    };
-    let Ok(copy) = bus.memory().to_vec(rt.alloc()) else {
-        return Err(Fault::NoMemory);
+    let (bus, copy) = match bus_behind(rt, place, trusts, noted) {
+        Ok(reached) => reached,
+        Err(fault) => return Err(fault),
     };
     match open_bus(rt.alloc(), bus, copy, tidy, wear, Firmness::Firm) {
         Ok(disk) => Ok(disk),

@@ -93,7 +93,7 @@ pub(crate) fn copied_disk(
     let Ok(chip) = PromptChip::new(image) else {
         unreachable!()
     };
-    let disk = look_at(alloc, chip, firmness)?;
+    let disk = look_at::<_, Brand>(alloc, chip, firmness)?;
     if found.is_some() {
         return Err(Fault::NotClean);
     }

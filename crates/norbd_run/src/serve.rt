@@ -1,10 +1,10 @@
 //! `serve`: the chip in an image file, served to clients on a port or a Unix socket.
-ghost use Rattle.std.specs.Prelude.{◌≡◌, ◌*◌, ◌<◌, length, string_bytes, IfOk, IfErr, true};
+ghost use Rattle.std.specs.Prelude.{◌≡◌, ◌*◌, ◌<◌, ◌≤◌, length, string_bytes, IfOk, IfErr, true};
 ghost use Rattle.std.specs.Prelude.{◌⊎◌, false, if◌then◌else◌, IsErr, IsFalse, None, Some};
 ghost use Rattle.block_device.specs.Facts.{IsDiskReady};
 ghost use Rattle.chip_model.specs.Chip.{is_idle};
 ghost use Rattle.chip_model.specs.Geometry.{IsChipSize};
-ghost use Rattle.flash_disk.specs.Mounting.{OpenedFrom};
+ghost use Rattle.flash_disk.specs.Mounting.{BeginsOn, IsQuiet, OpenedFrom};
 ghost use Rattle.sector_survey.specs.Cleanness.{HasCleanGroups};
 ghost use Rattle.std.specs.Thread.{IsSend};
 ghost use Rattle.norbd_run.specs.Listening.{IsRefusal, TellsServing, WritesText, ended_text};
@@ -25,7 +25,7 @@ use chip_model::SpiBus;
 use chip_simulator::{PromptChip, SimError};
 use disk_log::{ImageDisk, LoggedDisk, Sum, begin_anew};
 use erase_journal::Firmness;
-use flash_disk::{FlashDisk, MountError};
+use flash_disk::{FlashDisk, MountError, Provenance};
 use nbd_durable::{Durable, Policy};
 use nbd_history::{Hands, Opened};
 use nbd_share::{
@@ -394,20 +394,22 @@ pub(crate) fn open_bus<B: SpiBus + Drop>(
 {
     let blocks = (copy.len() / BLOCK_LEN as usize) as u32;
     copied_disk(alloc, copy, Firmness::Steady)?;
-    let mut disk = look_at(alloc, CountedBus::new(bus, wear, blocks), firmness)?;
+    let mut disk = look_at::<_, Brand>(alloc, CountedBus::new(bus, wear, blocks), firmness)?;
     spare(&mut disk, tidy);
     Ok(disk)
 }
 
 /// From now on blocks are chosen so that all wear alike, and tidied as is asked. The disk is sound
 /// and ready as it was, with the same contents.
-fn spare<B: SpiBus>(disk: &mut FlashDisk<B, Brand>, tidy: TidyPolicy)
-    ensures sound { (⟦<FlashDisk<B, Brand> as Disk>⟧.facts disk.new).sound
-        ≡ (⟦<FlashDisk<B, Brand> as Disk>⟧.facts disk.old).sound }
-    ensures contents { (⟦<FlashDisk<B, Brand> as Disk>⟧.facts disk.new).contents
-        ≡ (⟦<FlashDisk<B, Brand> as Disk>⟧.facts disk.old).contents }
-    ensures ready { IsDiskReady (⟦<FlashDisk<B, Brand> as Disk>⟧.facts disk.old)
-        → IsDiskReady (⟦<FlashDisk<B, Brand> as Disk>⟧.facts disk.new) }
+pub(crate) fn spare<B: SpiBus, P: Provenance>(disk: &mut FlashDisk<B, P>, tidy: TidyPolicy)
+    ensures sound { (⟦<FlashDisk<B, P> as Disk>⟧.facts disk.new).sound
+        ≡ (⟦<FlashDisk<B, P> as Disk>⟧.facts disk.old).sound }
+    ensures contents { (⟦<FlashDisk<B, P> as Disk>⟧.facts disk.new).contents
+        ≡ (⟦<FlashDisk<B, P> as Disk>⟧.facts disk.old).contents }
+    ensures ready { IsDiskReady (⟦<FlashDisk<B, P> as Disk>⟧.facts disk.old)
+        → IsDiskReady (⟦<FlashDisk<B, P> as Disk>⟧.facts disk.new) }
+    ensures quiet { IsQuiet (⟦<FlashDisk<B, P> as Disk>⟧.facts disk.old)
+        (⟦<FlashDisk<B, P> as Disk>⟧.facts disk.new) }
 {
     disk.level_wear();
     match tidy {
@@ -419,22 +421,29 @@ fn spare<B: SpiBus>(disk: &mut FlashDisk<B, Brand>, tidy: TidyPolicy)
 /// The disk on the chip behind a bus, on which nothing is in progress, with what is assumed of its
 /// torn bits. Its data blocks are read once whole: the disk is sound, and holds what the chip's
 /// memory, which is healthy, represents.
-pub(crate) fn look_at<B: SpiBus + Drop>(
+pub(crate) fn look_at<B: SpiBus + Drop, P: Provenance>(
     alloc: Global,
     bus: B,
     firmness: Firmness,
-) -> Result<FlashDisk<B, Brand>, Fault>
+) -> Result<FlashDisk<B, P>, Fault>
     requires idle { is_idle (B.chip bus).operation ≡ true }
+    requires unknown { P.sound ≡ false }
+    requires counted { P.slows ≤ B.slows bus }
+    requires firmly { P.firm ≡ true
+        → BeginsOn P.cuts P.slows firmness (B.chip bus) (B.cuts bus) (B.slows bus) }
     ensures refused { IfErr result IsRefusal }
     ensures reason { IfErr result (λ e. IsReason e (B.chip bus).memory) }
     ensures sound { IfOk result (λ disk.
-        (⟦<FlashDisk<B, Brand> as Disk>⟧.facts disk).sound ≡ true) }
+        (⟦<FlashDisk<B, P> as Disk>⟧.facts disk).sound ≡ true) }
     ensures ready { IfOk result (λ disk.
-        IsDiskReady (⟦<FlashDisk<B, Brand> as Disk>⟧.facts disk)) }
+        IsDiskReady (⟦<FlashDisk<B, P> as Disk>⟧.facts disk)) }
     ensures from { IfOk result (λ disk. OpenedFrom (B.chip bus).memory
-        (⟦<FlashDisk<B, Brand> as Disk>⟧.facts disk)) }
+        (⟦<FlashDisk<B, P> as Disk>⟧.facts disk)) }
+    ensures counts { IfOk result (λ disk.
+        ((⟦<FlashDisk<B, P> as Disk>⟧.facts disk).cuts ≡ B.cuts bus)
+        × ((⟦<FlashDisk<B, P> as Disk>⟧.facts disk).slows ≡ B.slows bus)) }
 {
-    let mut disk = match FlashDisk::<_, Brand>::mount_as(alloc, bus, firmness) {
+    let mut disk = match FlashDisk::<B, P>::mount_as(alloc, bus, firmness) {
         Ok(disk) => disk,
         Err((_, error)) => return Err(told_of_mount(error)),
     };
