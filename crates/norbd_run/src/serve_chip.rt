@@ -1,10 +1,10 @@
 //! `serve` of a chip behind a programmer.
-ghost use Rattle.std.specs.Prelude.{◌≡◌, ◌⊎◌, ◌<◌, IsErr, IsFalse, false, length, true};
+ghost use Rattle.std.specs.Prelude.{◌≡◌, ◌<◌, IsErr, IsFalse, false, length, not, true};
 ghost use Rattle.chip_model.specs.Chip.{is_idle};
 ghost use Rattle.chip_model.specs.Geometry.{IsChipSize};
 ghost use Rattle.chip_model.specs.Wavering.{bits_of};
 ghost use Rattle.sector_slots.specs.Fit.{IsFitForFirmMount};
-ghost use Rattle.restored_disk.specs.Lives.{ReadsAsBefore};
+ghost use Rattle.restored_disk.specs.Lives.{IsFirmOrSteady};
 ghost use Rattle.norbd_line.specs.Line.{IsConns, IsPlace};
 ghost use Rattle.norbd_run.specs.Listening.{TellsServing};
 
@@ -12,7 +12,7 @@ use crate::chip_disk::{bus_behind, bytes_behind};
 use crate::host::Host;
 use crate::image_disk::copied_disk;
 use crate::listening::listen_at;
-use crate::serve::{Asked, look_at, serve_opened, spare, wear_of};
+use crate::serve::{Asked, look_at, serve_opened, wear_of};
 use block_device::Sink;
 use chip_model::SpiBus;
 use erase_journal::Firmness;
@@ -137,6 +137,7 @@ where
         listener,
         OneLife::new(bus),
         copy,
+        true,
         Blank::new(1),
         asked,
         writer,
@@ -146,12 +147,13 @@ where
 /// Serves the chip behind a bus, on which nothing is in progress and whose memory is this copy, in
 /// one life after another. The copy is looked at first: of a chip that isn't served nothing is
 /// changed. `L` says what is known of the chip: that it is fit for a firm mount (`L.firm`), or else
-/// that it reads as before at each power-on.
+/// that it reads as before at each power-on, which `steady` tells.
 fn serve_lives<L, R, B, K>(
     rt: &R,
     listener: Listener,
     bus: B,
     copy: Vec<u8>,
+    steady: bool,
     blank: Blank,
     asked: Asked<'_>,
     writer: &mut K,
@@ -167,7 +169,8 @@ where
     requires unknown { L.sound ≡ false }
     requires cuts { (L.cuts ≡ 0) × (B.cuts bus ≡ 0) }
     requires slows { L.slows ≡ B.slows bus }
-    requires reads { (L.firm ≡ true) ⊎ ReadsAsBefore B.draw }
+    requires served { IsFirmOrSteady L.firm B.draw }
+    requires steady { steady ≡ not L.firm }
     requires fit { L.firm ≡ true → IsFitForFirmMount (bits_of (B.chip bus)) }
     requires idle { is_idle (B.chip bus).operation ≡ true }
     requires copy { copy.items ≡ (B.chip bus).memory }
@@ -182,16 +185,15 @@ where
     if let Err(fault) = copied_disk(alloc, copy, Firmness::Steady) {
         return Err(fault);
     }
-    let mut disk = match look_at::<B, L>(alloc, bus, Firmness::Firm) {
+    let disk = match look_at::<B, L>(alloc, bus, Firmness::Firm) {
         Ok(disk) => disk,
         Err(fault) => return Err(fault),
     };
-    spare(&mut disk, asked.tidy);
     let habits = Habits {
         levels: true,
         lazy: asked.tidy == TidyPolicy::Lazily,
     };
-    let disk = RestoredDisk::new(LifeDisk::new(alloc, disk, habits, blank));
+    let disk = RestoredDisk::new(LifeDisk::new(alloc, disk, steady, habits, blank));
     let durable = Durable::new(NoFile, Policy::Never);
     serve_opened(rt, listener, disk, &durable, asked, writer)
 }

@@ -4,4 +4,4 @@ mod Living
 mod Simulating
 mod GroupKinds
 mod FromGroups
-mod OneLife
+mod NextLife

@@ -10,7 +10,7 @@ use Rattle.sector_slots.specs.Slots.{IsClean}
 use Rattle.sector_map.specs.Maps.{IsMountable}
 use Rattle.flash_disk.specs.Contents.{contents_of}
 use Rattle.norbd_script.specs.Lives.{CallsAreALife, IsHealthyChip, LeftAlone, keeps_power, loses_power, regains_power, Lives, StaySays, StaysHealthy, as_seen, seen_with}
-use Rattle.norbd_script.specs.OneLife.{FirmLivesAreALife}
+use Rattle.norbd_script.specs.NextLife.{FirmLivesAreALife}
 
 torn-none : (op : Operation) (m m' : List ℕ) → is_idle op ≡ true → TornMemory op m m' → m' ≡ m
 torn-none Idle m m' idle torn = torn
@@ -103,7 +103,7 @@ firm-lives c c' (run ∷ runs) all h fit =
     let b = run.before in
     let left = left-by c b.chip all.0 h in
     let well = all.1.runs.stays left.healthy all.2 in
-    let rest = firm-lives run.after.chip c' runs all.3 well.healthy all.1.fit in
+    let rest = firm-lives run.after.chip c' runs all.3 well.healthy (all.1.fit refl) in
     let sectors : sector_count (length run.after.chip.memory) ≡ sector_count (length c.memory) = well.sectors ∙ ap (λ m. sector_count (length m)) left.memory in (
       (
         subst (λ m. StaySays (seen_with (sector_count (length m)) (contents_of m) b) run.stay (as_seen run.after)) left.memory (all.1.runs.says left.healthy),

@@ -40,7 +40,7 @@ pub record IsArrayOfGroups (m array : List ℕ) : Type 0 where
       → GroupSectorIs m g i (sector array (7 * g + i))
 
 -- Such a chip holds this array, the one that its groups are, and no other. What a call of
--- `run_mounted` wrote is a transcript from it, and none is refused as unclean; a life begins from
+-- `run_steady` wrote is a transcript from it, and none is refused as unclean; a life begins from
 -- it.
 pub record IsServedFrom (c : Chip) (array : List ℕ) : Type 0 where
   pub groups : IsArrayOfGroups c.memory array

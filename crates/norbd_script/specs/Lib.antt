@@ -1,6 +1,6 @@
 pub mod Answered
 pub mod Simulated
 pub mod Lives
-pub mod OneLife
+pub mod NextLife
 pub mod Running
 pub mod GroupChips

@@ -91,7 +91,7 @@ pub record StaysHealthy (c c' : Chip) : Type 0 where
   pub sectors : sector_count (length c'.memory) ≡ sector_count (length c.memory)
   pub clean : IsClean c.memory → IsClean c'.memory
 
--- What one call of `run_mounted` says.
+-- What one call of `run_steady` says.
 pub record RunsMounted (old : OnBus) (stay : Stay) (new : OnBus) : Type 0 where
   pub cuts : old.cuts ≤ new.cuts
   pub slows : old.slows ≤ new.slows

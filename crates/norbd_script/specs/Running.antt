@@ -1,6 +1,6 @@
 -- What the run of a script on a sound disk says. Words of private functions: no claim rests on
 -- them. Source: own.
-use Rattle.std.specs.Prelude.{◌≡◌, ℕ, ◌*◌, ◌≤◌, length, Result, Ok, Err}
+use Rattle.std.specs.Prelude.{◌≡◌, ℕ, ◌*◌, ◌≤◌, Bool, true, length, Result, Ok, Err}
 use Rattle.chip_model.specs.Geometry.{sector_count}
 use Rattle.chip_model.specs.Wavering.{bits_of}
 use Rattle.sector_slots.specs.Fit.{IsFitForFirmMount}
@@ -39,7 +39,9 @@ pub record RunsOn (f : Facts) (counted : ℕ) (stay : Stay) (new : OnBus) : Type
   pub says : (n : ℕ) → length f.contents ≡ 512 * n → StaySays (seen_of n f) stay (as_seen new)
   pub left : f.slows ≡ counted → new.slows ≡ f.slows → IsLeftWell new
 
--- The same of one life, of the chip as the next power-on finds it: the next life can begin with it.
-pub record RunsLife (f : Facts) (counted : ℕ) (stay : Stay) (new : OnBus) : Type 0 where
-  pub runs : RunsOn f counted stay new
-  pub fit : IsFitForFirmMount (bits_of new.chip)
+-- The same of lives, of the chip as the next power-on finds it: where they began firmly, it is fit
+-- for the next firm mount.
+pub record RunsLives (firm : Bool) (f : Facts) (counted : ℕ) (stay : Stay) (new : OnBus) : Type 0
+  where
+    pub runs : RunsOn f counted stay new
+    pub fit : firm ≡ true → IsFitForFirmMount (bits_of new.chip)

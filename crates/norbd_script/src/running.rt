@@ -1,6 +1,6 @@
 //! Format, mount and a script in one call, and mount and a script in one, over any bus.
 
-ghost use Rattle.std.specs.Prelude.{◌≡◌, ◌*◌, ◌<◌, ℕ, true, false, length};
+ghost use Rattle.std.specs.Prelude.{◌≡◌, ◌⊎◌, ◌*◌, ◌<◌, ℕ, true, false, not, length, []};
 ghost use Rattle.block_device.specs.Facts.{IsDiskReady};
 ghost use Rattle.chip_model.specs.Chip.{is_idle};
 ghost use Rattle.chip_model.specs.Geometry.{sector_count};
@@ -13,22 +13,23 @@ ghost use Rattle.sector_slots.specs.Slots.{IsClean};
 ghost use Rattle.norbd_script.specs.Answered.{AnswersScript, FormatLeft, FormatsAsTold};
 ghost use Rattle.norbd_script.specs.Answered.{IsPastFormat, script_part};
 ghost use Rattle.norbd_script.specs.Lives.{IsHealthyChip, RunsMounted};
-ghost use Rattle.norbd_script.specs.OneLife.{CountsLosses, EndsLife, found};
-ghost use Rattle.norbd_script.specs.Running.{IsPastMount, RunsLife, RunsOn};
+ghost use Rattle.norbd_script.specs.NextLife.{CountsLosses, EndsLives, found};
+ghost use Rattle.norbd_script.specs.Running.{IsPastMount, RunsLives, RunsOn};
+ghost use Rattle.restored_disk.specs.Lives.{IsFirmOrSteady};
 ghost use Rattle.nbd_station.specs.Script.{FailsToReadAll, FailsToWrite};
 
 use crate::error::RunFault;
-use crate::life::{Life, OneLifeDisk};
 use block_device::{Disk, DiskError, Sink, Source};
 use chip_model::SpiBus;
 use erase_journal::Firmness;
 use flash_disk::{FlashDisk, MountError, Provenance, format};
 use nbd_station::Station;
 use nor_driver::ProbeError;
+use restored_disk::{Ended, Habits, LifeDisk, PowerCycle};
 use sector_stock::Policy;
 use std::alloc::Global;
 use std::marker::Brand;
-use std::sync::ledger::Blank;
+use std::sync::ledger::{Blank, Ledger};
 
 /// Formats the chip behind a bus, mounts it, and runs a script on it, whose records come from
 /// `reader`, with the transcript to `writer`. The bus is handed back, with what became of the
@@ -87,8 +88,9 @@ pub fn run_formatted<B: SpiBus, S: Source, W: Sink>(
     }
 }
 
-/// Mounts the chip behind a bus, reads each of its data blocks, and runs a script on it, whose
-/// records come from `reader`, with the transcript to `writer`. The bus is handed back, with what
+/// Mounts the chip behind a bus, whose bits are steady, reads each of its data blocks, and runs a
+/// script on it, whose records come from `reader`, with the transcript to `writer`: a Restore
+/// behind a loss of power restores the disk where it lost it. The bus is handed back, with what
 /// became of the script.
 ///
 /// The script begins from the sectors that the chip's memory represents, and what it leaves is what
@@ -97,7 +99,7 @@ pub fn run_formatted<B: SpiBus, S: Source, W: Sink>(
 /// `OutOfMemory` where there is no memory for the station: then nothing is read or written, and a
 /// healthy chip keeps its sectors. Power may be lost inside any frame. The records are those of
 /// `Station::run_script`.
-pub fn run_mounted<B: SpiBus, S: Source, W: Sink>(
+pub fn run_steady<B: SpiBus, S: Source, W: Sink>(
     alloc: Global,
     bus: B,
     policy: Policy,
@@ -309,31 +311,49 @@ fn run_as_is<B: SpiBus, P: Provenance, S: Source, W: Sink>(
     }
 }
 
-/// Mounts the chip behind a bus firmly, and runs a script on it, in one life of a chip whose torn
-/// bits waver: the first loss of power is the last that the script knows, and each `Restore` behind
-/// it is answered as lost.
+/// Mounts the chip behind a bus firmly, reads each of its data blocks, and runs a script on it in
+/// one life after another: a Restore behind a loss of power turns the power off and on and mounts
+/// the chip anew. Records and transcript are those of `run_steady`, but that a loss is armed only
+/// with the power on; the bus is handed back, with what became of the script.
 ///
-/// The chip is fit for a firm mount, as a format and each such life leave it (`fit`). Once it is
-/// mounted, and where no operation is slow, the script is answered as `run_mounted` says it, from
-/// the sectors that the chip's memory represents to those that the next power-on finds, however the
-/// weak bits read then (`L.draw`): each sector of an interrupted command is old or new. A refused
-/// mount reads and writes nothing of the script.
-pub fn run_firmly<B: SpiBus, L: Life, S: Source, W: Sink>(
+/// The chip's torn bits may waver. `L.firm` says that it is fit for a firm mount, as a format
+/// leaves it, and each such call that ended with the chip mounted (`fit`). Else `steady` is set: it
+/// reads as before at each power-on, and the mount of a Restore that is refused is tried again by
+/// the next one, but after a slow operation. Where no operation was slow, the script is answered
+/// from the sectors that the chip's memory represents to those that the next power-on finds,
+/// however the weak bits read at each (`B.draw`): each sector of an interrupted command is old or
+/// new. Of a call in which the mount of a Restore was refused, by a loss of power in it or for want
+/// of memory, this is said only where the chip reads as before.
+///
+/// Its refusals are those of `run_steady`.
+pub fn run_mounted<B, L, S, W>(
     alloc: Global,
     bus: B,
+    steady: bool,
     blank: Blank,
     policy: Policy,
     reader: &mut S,
     writer: &mut W,
-) -> (B, Result<(), RunFault>)
+) -> (Ended<B>, Result<(), RunFault>)
+where
+    B: PowerCycle + Drop,
+    L: Provenance + Ledger,
+    S: Source,
+    W: Sink,
     requires name { blank.name ≡ L.name }
     requires parts { blank.parts ≡ L.parts }
     requires some { 0 < L.parts }
-    requires sound { L.sound ≡ true }
-    requires firm { L.firm ≡ true }
-    requires begins { BeginsOn L.cuts L.slows Firm (B.chip bus) (B.cuts bus) (B.slows bus) }
-    ensures says { IsPastMount result.1 → B.slows result.0 ≡ B.slows bus
-        → (losses : ℕ) × CountsLosses (B.cuts bus) (B.cuts result.0) losses × EndsLife
+    requires unknown { L.sound ≡ false }
+    requires served { IsFirmOrSteady L.firm B.draw }
+    requires steady { steady ≡ not L.firm }
+    requires cuts { (L.cuts ≡ 0) × (B.cuts bus ≡ 0) }
+    requires slows { L.slows ≡ B.slows bus }
+    requires firm { L.firm ≡ true
+        → BeginsOn L.cuts L.slows Firm (B.chip bus) (B.cuts bus) (B.slows bus) }
+    ensures says { IsPastMount result.1 → B.slows result.0.bus ≡ B.slows bus
+        → (result.0.mounted ≡ true) ⊎ (L.firm ≡ false) → (losses : ℕ)
+        × CountsLosses L.firm B.cuts result.0.lives.items (B.cuts result.0.bus) losses
+        × EndsLives L.firm
         (record { chip = B.chip bus; cuts = B.cuts bus; slows = B.slows bus })
         (record {
           input = S.remaining reader.old;
@@ -343,9 +363,9 @@ pub fn run_firmly<B: SpiBus, L: Life, S: Source, W: Sink>(
           is = W.written writer.new;
         })
         (record {
-          chip = found L.draw (B.chip result.0);
+          chip = found (B.draw (length result.0.lives.items)) (B.chip result.0.bus);
           cuts = losses;
-          slows = B.slows result.0;
+          slows = B.slows result.0.bus;
         }) }
     ensures refused { (IsPastMount result.1 → ⊥) → RunsMounted
         (record { chip = B.chip bus; cuts = B.cuts bus; slows = B.slows bus })
@@ -357,40 +377,59 @@ pub fn run_firmly<B: SpiBus, L: Life, S: Source, W: Sink>(
           is = W.written writer.new;
         })
         (record {
-          chip = B.chip result.0;
-          cuts = B.cuts result.0;
-          slows = B.slows result.0;
+          chip = B.chip result.0.bus;
+          cuts = B.cuts result.0.bus;
+          slows = B.slows result.0.bus;
         }) }
+    ensures mounted { result.0.mounted ≡ false → IsPastMount result.1
+        → 0 < length result.0.lives.items }
+    ensures first { (IsPastMount result.1 → ⊥) → result.0.lives.items ≡ [] }
     ensures reads { FailsToReadAll (S.remaining reader.old) (S.faults reader.old)
         (script_part result.1) (S.faults reader.new) }
     ensures writes { FailsToWrite (W.faults writer.old) (script_part result.1)
         (W.faults writer.new) }
 {
-    match FlashDisk::<B, L>::mount_as(alloc, bus, Firmness::Firm) {
-        Ok(disk) => run_life(alloc, with_policy(disk, policy), blank, reader, writer),
-        Err((left, error)) => (left, Err(RunFault::Mount(error))),
+    let mut disk = match FlashDisk::<B, L>::mount_as(alloc, bus, Firmness::Firm) {
+        Ok(disk) => disk,
+        Err((bus, error)) => return (Ended::first(bus), Err(RunFault::Mount(error))),
+    };
+    let habits = Habits {
+        levels: policy == Policy::Level,
+        lazy: false,
+    };
+    match disk.check() {
+        Ok(true) => run_lives(
+            alloc,
+            LifeDisk::new(alloc, disk, steady, habits, blank),
+            reader,
+            writer,
+        ),
+        Ok(false) => (Ended::first(disk.into_inner()), Err(RunFault::NotClean)),
+        Err(DiskError::Cut) => (
+            Ended::first(disk.into_inner()),
+            Err(RunFault::Mount(MountError::Probe(ProbeError::Cut))),
+        ),
+        Err(DiskError::Slow) => (
+            Ended::first(disk.into_inner()),
+            Err(RunFault::Mount(MountError::Probe(ProbeError::Slow))),
+        ),
     }
 }
 
-/// Runs a script on the disk of one life.
-fn run_life<B: SpiBus, L: Life, S: Source, W: Sink>(
+/// Runs a script on the disk of a chip in its lives, the first of which begins with this one.
+fn run_lives<B: PowerCycle + Drop, L: Provenance + Ledger, S: Source, W: Sink>(
     alloc: Global,
-    disk: FlashDisk<B, L>,
-    blank: Blank,
+    disk: LifeDisk<B, L>,
     reader: &mut S,
     writer: &mut W,
-) -> (B, Result<(), RunFault>)
-    requires name { blank.name ≡ L.name }
-    requires parts { blank.parts ≡ L.parts }
-    requires some { 0 < L.parts }
-    requires firm { L.firm ≡ true }
-    requires sound { (⟦<FlashDisk<B, L> as Disk>⟧.facts disk).sound ≡ true }
-    requires ready { IsDiskReady (⟦<FlashDisk<B, L> as Disk>⟧.facts disk) }
-    requires cuts { (⟦<FlashDisk<B, L> as Disk>⟧.facts disk).cuts ≡ L.cuts }
-    requires slows { (⟦<FlashDisk<B, L> as Disk>⟧.facts disk).slows ≡ L.slows }
-    ensures says { B.slows result.0 ≡ L.slows → (losses : ℕ)
-        × CountsLosses L.cuts (B.cuts result.0) losses
-        × RunsLife (⟦<FlashDisk<B, L> as Disk>⟧.facts disk) L.slows
+) -> (Ended<B>, Result<(), RunFault>)
+    requires sound { disk.facts.sound ≡ true }
+    requires ready { IsDiskReady disk.facts }
+    requires slows { disk.facts.slows ≡ L.slows }
+    ensures says { B.slows result.0.bus ≡ L.slows
+        → (result.0.mounted ≡ true) ⊎ (L.firm ≡ false) → (losses : ℕ)
+        × CountsLosses L.firm B.cuts result.0.lives.items (B.cuts result.0.bus) losses
+        × RunsLives L.firm disk.facts L.slows
         (record {
           input = S.remaining reader.old;
           was = W.written writer.old;
@@ -399,17 +438,18 @@ fn run_life<B: SpiBus, L: Life, S: Source, W: Sink>(
           is = W.written writer.new;
         })
         (record {
-          chip = found L.draw (B.chip result.0);
+          chip = found (B.draw (length result.0.lives.items)) (B.chip result.0.bus);
           cuts = losses;
-          slows = B.slows result.0;
+          slows = B.slows result.0.bus;
         }) }
+    ensures mounted { result.0.mounted ≡ false → 0 < length result.0.lives.items }
     ensures reads { FailsToReadAll (S.remaining reader.old) (S.faults reader.old)
         (script_part result.1) (S.faults reader.new) }
     ensures writes { FailsToWrite (W.faults writer.old) (script_part result.1)
         (W.faults writer.new) }
     ensures past { IsPastMount result.1 }
 {
-    match Station::new(alloc, OneLifeDisk::new(disk, blank)) {
+    match Station::new(alloc, disk) {
         Ok(station) => {
             let mut station = station;
             match station.run_script(reader, writer) {

@@ -4,11 +4,12 @@
 //! `PowerCycle` is a bus whose chip begins its next life by a power-on, at which the bits that a
 //! loss of power tore read otherwise; `OneLife` makes one of any `SpiBus`, whose chip reads as
 //! before. `LifeDisk` is the `Disk` of such a chip: its `restore` turns the power off and on and
-//! mounts the chip firmly. Where it was mounted so from a chip that was fit for it (`P.firm`), each
-//! life holds the contents that the one before it left, an interrupted write leaves each sector old
-//! or new at the next power-on, and the chip that is given back is fit for the next firm mount:
-//! with its contents however its weak bits read, or after a loss as they are drawn (`into_inner`).
-//! The number of losses inside a mount is 0: once a mount was refused the disk is lost for good.
+//! mounts the chip firmly. Where it was mounted so from a chip that was fit for it (`P.firm`), or
+//! the chip reads as before, each life holds the contents that the one before it left, and an
+//! interrupted write leaves each sector old or new at the next power-on. The chip that is given
+//! back has these contents then, and one that was fit is fit for the next firm mount
+//! (`into_inner`). The number of losses inside a mount of such a chip is 0: once a mount was
+//! refused the disk is lost for good. One that reads as before is mounted again.
 //!
 //! `RestoredDisk` is a `Disk` over another one. Where that answers Cut to a call and no Cut stood,
 //! its power is turned on anew by `restore`, once for a call; where that went well the call is made
@@ -27,6 +28,6 @@ mod one_life;
 mod power;
 
 pub use disk::RestoredDisk;
-pub use life::{Habits, LifeDisk};
+pub use life::{Ended, Habits, LifeDisk};
 pub use one_life::OneLife;
 pub use power::PowerCycle;

@@ -60,10 +60,10 @@ impl<B: SpiBus> SpiBus for OneLife<B> {
 }
 
 impl<B: SpiBus> PowerCycle for OneLife<B> {
-    ghost draw = { as_before };
+    ghost draw = { λ life. as_before };
 
     /// The trait's clauses, and one more: nothing is done on the bus inside.
-    fn power_cycle(self) -> Self
+    fn power_cycle(self, _ended: &Log<Self, ()>) -> Self
         ensures next { is_idle (B.chip self.bus).operation ≡ true
             → IsNextLife as_before (B.chip self.bus) (B.chip result.bus) }
         ensures cuts { ⟦<OneLife<B> as SpiBus>⟧.cuts result ≡ 0 }

@@ -37,6 +37,7 @@ pub fn new_lives<B: PowerCycle + Drop, L: Provenance + Ledger>(
         Ok(disk) => Some(LifeDisk::new(
             alloc,
             disk,
+            false,
             Habits {
                 levels: false,
                 lazy: false,

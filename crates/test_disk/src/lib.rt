@@ -6,8 +6,8 @@
 //!
 //! There is no product code here. `first_of_new` formats a chip, mounts it as a sound disk and
 //! reads its first sector, so that the contracts of `format`, `mount` and `read` meet: it is proved
-//! to give zeros. `first_life` mounts it firmly and runs a script on it, so that the contracts of
-//! `format` and `run_firmly` meet, and `new_lives` makes the disk of its lives. The chips are
+//! to give zeros. `first_lives` mounts it firmly and runs a script on it, so that the contracts of
+//! `format` and `run_mounted` meet, and `new_lives` makes the disk of its lives. The chips are
 //! `chip_simulator::SimChip`, of 64 KiB, one of them of 1 MiB.
 
 #![tactic(auto)]
@@ -18,8 +18,6 @@ mod chip_files;
 mod cuttings;
 #[cfg(test)]
 mod firm_mounts;
-#[cfg(test)]
-mod first_lives;
 #[cfg(test)]
 mod first_sector;
 mod fresh;
@@ -62,10 +60,16 @@ mod settling;
 #[cfg(test)]
 mod station_wear;
 #[cfg(test)]
+mod torn_lives;
+#[cfg(test)]
+mod unlucky;
+#[cfg(test)]
+mod waverer;
+#[cfg(test)]
 mod wear;
 #[cfg(test)]
 mod writes;
 
 pub use fresh::first_of_new;
 pub use fresh_lives::new_lives;
-pub use lives::first_life;
+pub use lives::first_lives;

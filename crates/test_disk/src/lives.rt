@@ -1,66 +1,65 @@
-//! The first life of a chip whose torn bits waver.
+//! The first lives of a chip whose torn bits waver.
 
-ghost use Rattle.std.specs.Prelude.{◌≡◌, ◌<◌, ℕ, true, IfSome};
+ghost use Rattle.std.specs.Prelude.{◌≡◌, ◌<◌, ℕ, true, false, IfSome, length};
 ghost use Rattle.chip_model.specs.Chip.{Chip};
 ghost use Rattle.flash_disk.specs.Formatted.{Formatted};
-ghost use Rattle.norbd_script.specs.OneLife.{CountsLosses, EndsLife, found};
+ghost use Rattle.norbd_script.specs.NextLife.{CountsLosses, EndsLives, found};
 ghost use Rattle.norbd_script.specs.Running.{IsPastMount};
 
 use block_device::{Sink, Source};
 use chip_model::SpiBus;
-use flash_disk::format;
-use norbd_script::{Life, RunFault, run_firmly};
+use flash_disk::{Provenance, format};
+use norbd_script::{RunFault, run_mounted};
+use restored_disk::{Ended, PowerCycle};
 use sector_stock::Policy;
 use std::alloc::Global;
-use std::sync::ledger::Blank;
+use std::sync::ledger::{Blank, Ledger};
 
-/// Formats a chip, and runs a script in its first life; `None` where the format was refused. What
+/// Formats a chip, and runs a script in its first lives; `None` where the format was refused. What
 /// the script is answered begins from a chip that was just formatted. With the chip as the next
-/// power-on finds it, however its weak bits read then, another life can begin.
-pub fn first_life<B: SpiBus, L: Life, S: Source, W: Sink>(
+/// power-on finds it, another life can begin.
+pub fn first_lives<B: PowerCycle + Drop, L: Provenance + Ledger, S: Source, W: Sink>(
     alloc: Global,
     bus: B,
     blank: Blank,
     reader: &mut S,
     writer: &mut W,
-) -> (B, Option<Result<(), RunFault>>)
+) -> Option<(Ended<B>, Result<(), RunFault>)>
     requires name { blank.name ≡ L.name }
     requires parts { blank.parts ≡ L.parts }
     requires some { 0 < L.parts }
-    requires sound { L.sound ≡ true }
+    requires unknown { L.sound ≡ false }
     requires firm { L.firm ≡ true }
-    requires cuts { L.cuts ≡ B.cuts bus }
+    requires cuts { (L.cuts ≡ 0) × (B.cuts bus ≡ 0) }
     requires slows { L.slows ≡ B.slows bus }
-    ensures lives { IfSome result.1 (λ answer. IsPastMount answer → B.slows result.0 ≡ B.slows bus
-        → (begun : Chip) × Formatted begun × (losses : ℕ)
-        × CountsLosses (B.cuts bus) (B.cuts result.0) losses × EndsLife
-        (record { chip = begun; cuts = B.cuts bus; slows = B.slows bus })
+    ensures lives { IfSome result (λ r. IsPastMount r.1 → B.slows r.0.bus ≡ B.slows bus
+        → r.0.mounted ≡ true → (begun : Chip) × Formatted begun × (losses : ℕ)
+        × CountsLosses L.firm B.cuts r.0.lives.items (B.cuts r.0.bus) losses × EndsLives L.firm
+        (record { chip = begun; cuts = 0; slows = B.slows bus })
         (record {
           input = S.remaining reader.old;
           was = W.written writer.old;
-          answer = answer;
+          answer = r.1;
           left = S.remaining reader.new;
           is = W.written writer.new;
         })
         (record {
-          chip = found L.draw (B.chip result.0);
+          chip = found (B.draw (length r.0.lives.items)) (B.chip r.0.bus);
           cuts = losses;
-          slows = B.slows result.0;
+          slows = B.slows r.0.bus;
         })) }
 {
     let (bus, formatted) = format(bus);
     match formatted {
-        Ok(()) => {
-            let (bus, answer) = run_firmly::<B, L, S, W>(
-                alloc,
-                bus,
-                blank,
-                Policy::Lowest,
-                reader,
-                writer,
-            );
-            (bus, Some(answer))
-        }
-        Err(_) => (bus, None),
+        Ok(()) => Some(run_mounted::<B, L, S, W>(
+            alloc,
+            bus,
+            false,
+            blank,
+            Policy::Lowest,
+            reader,
+            writer,
+        )),
+        Err(_) => None,
     }
 }

@@ -1,8 +1,8 @@
-use Rattle.std.proofs.Common.{◌*◌, ◌∙◌, refl, sym, ap, replicate}
+use Rattle.std.proofs.Common.{length, ◌*◌, ◌∙◌, refl, sym, ap, replicate}
 use Rattle.block_device.specs.Contents.{Outcome, replaced}
 use Rattle.flash_disk.specs.Contents.{contents_of}
 use Rattle.restored_disk.specs.Lives.{Lived, on_chip}
-use Rattle.restored_disk.proofs.Lives.{lost-writes, lost-goes, lost-size, lost-stands}
+use Rattle.restored_disk.proofs.Lives.{first-after, if-none, lost-goes, lost-size, lost-stands, lost-writes, reads-at, told-after}
 use Rattle.restored_disk.proofs.life.LifeDiskDisk.zero.Goals as goal
 
 pub invariant_of-self-in-Err : goal.invariant_of-self-in-Err
@@ -11,17 +11,24 @@ invariant_of-self-in-Err g c =
     let e = c.zero.new.self in
     let known = g.P.Provenance.sound in
     let firm = g.P.Provenance.firm in
-    let draw = g.B.PowerCycle.draw in
+    let life = length c.self.inside.ended.items in
+    let draw = g.B.PowerCycle.draw life in
     let n = c.self.inside.losses in
     let p = on_chip known d.checked d.doubtful d.lazy d.map d.cut in
     let q = on_chip known e.checked e.doubtful e.lazy e.map e.cut in
     let s = rw c.in-Some-disk.is at (rw c.in_default.is at c.self.invariant.stands) in
+    let here = rw c.in-Some-disk.is at c.self.invariant.here in
     record {
-      here = refl;
-      reads = c.self.invariant.reads;
+      here = here;
+      served = c.self.invariant.served;
+      steady = c.self.invariant.steady;
       cuts = c.self.invariant.cuts;
       size = lost-size c.in-Err.error draw p q c.stand.new.standing c.stand.new.losses _ c.stand.ensures.stands refl refl c.in-Err.ensures.goes (rw c.in-Some-disk.is at (rw c.in_default.is at c.self.invariant.size));
       stands = lost-stands (Unit {0}) c.in-Err.error firm g.P.Provenance.slows p q (Outcome (contents_of d.map.memory) (replaced (contents_of d.map.memory) (512 * c.args.first) (replicate (512 * c.args.count) 0))) c.stand.new.standing c.stand.ensures.stands s refl c.in-Err.ensures.sound c.in-Err.ensures.latches c.in-Err.ensures.counts (λ cut is. c.in-Err.ensures.firmly is (s.3 ∙ sym c.self.invariant.cuts) s.4 cut s.2 s.1);
+      waits = if-none c.self.inside.bus _ here;
+      ended = c.self.invariant.ended;
+      first = λ none. (refl, first-after c.in-Err.error c.stand.new.standing n c.stand.new.losses c.stand.ensures.stands c.stand.ensures.counts ((rw c.in_default.is at (c.self.invariant.first none)).1 refl));
+      told = λ is here. told-after c.in-Err.error n life c.stand.new.losses c.stand.new.standing c.stand.ensures.stands c.stand.ensures.counts ((rw c.in-Some-disk.is at (rw c.in_default.is at c.self.invariant.told)) is refl);
     }
 
 pub returns-in-Err-clause-contents : goal.returns-in-Err-clause-contents
@@ -30,20 +37,22 @@ returns-in-Err-clause-contents g c sound =
     let e = c.zero.new.self in
     let known = g.P.Provenance.sound in
     let firm = g.P.Provenance.firm in
-    let draw = g.B.PowerCycle.draw in
+    let life = length c.self.inside.ended.items in
+    let draw = g.B.PowerCycle.draw life in
     let n = c.self.inside.losses in
     let p = on_chip known d.checked d.doubtful d.lazy d.map d.cut in
     let q = on_chip known e.checked e.doubtful e.lazy e.map e.cut in
     let s = rw c.in-Some-disk.is at (rw c.in_default.is at c.self.invariant.stands) in
     let was = ap (λ (x : Lived). x.facts) (rw c.in-Some-disk.is at (rw c.in_default.is at c.self.view_is)) in
-    lost-writes (Unit {0}) c.in-Err.error c.args.first (replicate (512 * c.args.count) 0) firm draw n p q c.args.self.now.facts c.stand.new.standing c.stand.result c.stand.new.losses was c.stand.ensures.stands c.stand.ensures.same refl refl refl c.self.invariant.reads (c.in-Err.ensures.contents s.1) (λ cut is. c.in-Err.ensures.firmly is (s.3 ∙ sym c.self.invariant.cuts) s.4 cut s.2 s.1)
+    lost-writes (Unit {0}) c.in-Err.error c.args.first (replicate (512 * c.args.count) 0) firm draw n p q c.args.self.now.facts c.stand.new.standing c.stand.result c.stand.new.losses was c.stand.ensures.stands c.stand.ensures.same refl refl refl (reads-at firm g.B.PowerCycle.draw life c.self.invariant.served) (c.in-Err.ensures.contents s.1) (λ cut is. c.in-Err.ensures.firmly is (s.3 ∙ sym c.self.invariant.cuts) s.4 cut s.2 s.1)
 
 pub returns-in-Err-clause-goes : goal.returns-in-Err-clause-goes
 returns-in-Err-clause-goes g c =
     let d = c.in-Some-disk.disk in
     let e = c.zero.new.self in
     let known = g.P.Provenance.sound in
-    let draw = g.B.PowerCycle.draw in
+    let life = length c.self.inside.ended.items in
+    let draw = g.B.PowerCycle.draw life in
     let n = c.self.inside.losses in
     let p = on_chip known d.checked d.doubtful d.lazy d.map d.cut in
     let q = on_chip known e.checked e.doubtful e.lazy e.map e.cut in

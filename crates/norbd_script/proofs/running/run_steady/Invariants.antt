@@ -1,5 +1,5 @@
 use Rattle.std.specs.Prelude.{false}
-use Rattle.norbd_script.proofs.running.run_mounted.Given as goal
+use Rattle.norbd_script.proofs.running.run_steady.Given as goal
 
 -- nothing is known of the chip but the count of slow operations
 abbrev pub ghosts-run_checked : goal.ghosts-run_checked
