@@ -1,6 +1,7 @@
 -- What the weak bits of a simulated chip read as after each power-on: those of one byte, again and
 -- again. Source: own.
-use Rattle.std.proofs.Common.{◌≡◌, ◌<◌, ◌⊎◌, ℕ, zero, suc, List, refl, inl, inr, arith, cases_lt}
+use Rattle.std.proofs.Common.{◌≡◌, ◌<◌, ◌⊎◌, ℕ, zero, suc, List, refl, inl, inr, arith}
+use Rattle.std.proofs.lemmas.Bool.{cases_lt}
 use Rattle.std.specs.Prelude.{[], ◌∷◌}
 use Rattle.chip_model.specs.Memory.{byte}
 use Rattle.chip_model.specs.Wavering.{Bits}
@@ -42,10 +43,12 @@ draw_of draw b = draw_if draw b (are_bytes b.shown) (are_bytes b.weak)
 drawn_if : (draw : List ℕ) (b : Bits) (s : AreBytes b.shown ⊎ (AreBytes b.shown → ⊥))
     (w : AreBytes b.weak ⊎ (AreBytes b.weak → ⊥)) → AreBytes b.shown → AreBytes b.weak
     → (draw_if draw b s w).later ≡ drawn_by draw b.weak b.shown
+unfolding draw_if
 drawn_if draw b (inl shown) (inl weak) small masks = refl
 drawn_if draw b (inl shown) (inr others) small masks = absurd (others masks)
 drawn_if draw b (inr others) w small masks = absurd (others small)
 
 pub draw_is : (draw : List ℕ) (b : Bits) → AreBytes b.shown → AreBytes b.weak
     → (draw_of draw b).later ≡ drawn_by draw b.weak b.shown
+unfolding draw_of
 draw_is draw b small masks = drawn_if draw b (are_bytes b.shown) (are_bytes b.weak) small masks

@@ -29,13 +29,15 @@ impl Unlucky {
 }
 
 impl SpiBus for Unlucky {
+    ghost use Rattle.chip_simulator.specs.Lawful.{lawful_chip};
+
     ghost chip = { λ u. ⟦<OneLife<SimChip> as SpiBus>⟧.chip u.life };
 
     ghost cuts = { λ u. ⟦<OneLife<SimChip> as SpiBus>⟧.cuts u.life };
 
     ghost slows = { λ u. ⟦<OneLife<SimChip> as SpiBus>⟧.slows u.life };
 
-    ghost lawful = { λ u. ⟦<OneLife<SimChip> as SpiBus>⟧.lawful u.life };
+    ghost lawful = { λ u. lawful_chip u.life.bus };
 
     fn transact(&mut self, send: &[u8], recv: &mut [u8]) -> Result<(), PowerLost> {
         self.life.transact(send, recv)

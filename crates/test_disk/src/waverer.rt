@@ -41,13 +41,15 @@ impl Waverer {
 }
 
 impl SpiBus for Waverer {
+    ghost use Rattle.chip_simulator.specs.Lawful.{lawful_chip};
+
     ghost chip = { λ w. ⟦<OneLife<SimChip> as SpiBus>⟧.chip w.life };
 
     ghost cuts = { λ w. ⟦<OneLife<SimChip> as SpiBus>⟧.cuts w.life };
 
     ghost slows = { λ w. ⟦<OneLife<SimChip> as SpiBus>⟧.slows w.life };
 
-    ghost lawful = { λ w. ⟦<OneLife<SimChip> as SpiBus>⟧.lawful w.life };
+    ghost lawful = { λ w. lawful_chip w.life.bus };
 
     fn transact(&mut self, send: &[u8], recv: &mut [u8]) -> Result<(), PowerLost> {
         self.life.transact(send, recv)
